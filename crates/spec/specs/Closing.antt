@@ -1,0 +1,103 @@
+-- Closing searches and comma searches. The Rust's give the offset of the closer or the comma; here each gives the text behind it, so that
+-- searches compose, and the offset is what that text is shorter by. Assumes nothing.
+--     close                  what stands behind the closer of d + 1 open brackets: the first place where closers exceed openers
+--     level                  do all brackets of the text close, none before it opens?
+--     findMatchingParen ..   the Rust's searches, by their names
+use mathlib.Core.Bool.{Bool, true, false, _&&_, _||_}
+use mathlib.Core.List.{List, [], _∷_}
+use mathlib.Core.Option.{Option, none, some}
+use Prim.Native.Nat.{ℕ, zero, suc}
+use Prim.Native.Char.{Char, code}
+use lib.Dec.{eqb}
+use Rattle.spec.specs.Symbols.{is, past}
+
+pub data Side : Type 0 where
+  opens closes neither : Side
+
+abbrev pub sideOf : Bool → Bool → Side
+sideOf true b = opens
+sideOf false true = closes
+sideOf false false = neither
+
+abbrev pub side : ℕ → ℕ → ℕ → Side
+side o c x = sideOf (eqb x o) (eqb x c)
+
+module _ (o c : ℕ) where
+  unfoldable pub close : ℕ → List ℕ → Option (List ℕ)
+  close d [] = none
+  close d (x ∷ s) =
+      elim (side o c x) [
+        | opens ↦ close (suc d) s
+        | closes ↦ elim d [ zero ↦ some s | suc e ↦ close e s ]
+        | neither ↦ close d s
+      ]
+
+  -- d brackets are open before the text
+  unfoldable pub level : ℕ → List ℕ → Bool
+  level zero [] = true
+  level (suc d) [] = false
+  level d (x ∷ s) =
+      elim (side o c x) [
+        | opens ↦ level (suc d) s
+        | closes ↦ elim d [ zero ↦ false | suc e ↦ level e s ]
+        | neither ↦ level d s
+      ]
+
+-- the bracket has been passed
+abbrev pub findMatchingParen : List ℕ → Option (List ℕ)
+findMatchingParen s = close (code "(") (code ")") 0 s
+
+abbrev pub findMatchingBrace : List ℕ → Option (List ℕ)
+findMatchingBrace s = close (code "{") (code "}") 0 s
+
+-- the text begins with the bracket
+abbrev pub matchingDelimiter : ℕ → ℕ → List ℕ → Option (List ℕ)
+matchingDelimiter o c s = close o c 0 (past s)
+
+-- a search that runs to the end where no closer is found
+abbrev pub orEnd : Option (List ℕ) → List ℕ
+orEnd none = []
+orEnd (some s) = s
+
+-- ---- commas
+-- brackets of any kind
+abbrev pub anySide : ℕ → Side
+anySide x = sideOf (is "(" x || (is "[" x || is "{" x)) (is ")" x || (is "]" x || is "}" x))
+
+-- The Rust's depth is a number that may go below zero: here the brackets opened and those closed so far, and it is zero where they are as many.
+unfoldable pub commaBehind : ℕ → ℕ → List ℕ → Option (List ℕ)
+commaBehind opened closed [] = none
+commaBehind opened closed (x ∷ s) =
+    elim (anySide x) [
+      | opens ↦ commaBehind (suc opened) closed s
+      | closes ↦ commaBehind opened (suc closed) s
+      | neither ↦ elim (is "," x && eqb opened closed) [ true ↦ some s | false ↦ commaBehind opened closed s ]
+    ]
+
+abbrev pub findCommaInArgs : List ℕ → Option (List ℕ)
+findCommaInArgs s = commaBehind 0 0 s
+
+-- a comma with no backslash before it
+unfoldable pub unescapedBehind : ℕ → List ℕ → Option (List ℕ)
+unescapedBehind before [] = none
+unescapedBehind before (x ∷ s) = elim (is "," x) [ true ↦ elim (is "\\" before) [ true ↦ unescapedBehind x s | false ↦ some s ] | false ↦ unescapedBehind x s ]
+
+abbrev pub findUnescapedComma : List ℕ → Option (List ℕ)
+findUnescapedComma s = unescapedBehind 0 s
+
+-- the symbol stands before the first part
+abbrev pub pushed : ℕ → List (List ℕ) → List (List ℕ)
+pushed x [] = (x ∷ []) ∷ []
+pushed x (part ∷ parts) = (x ∷ part) ∷ parts
+
+unfoldable pub splitFrom : ℕ → ℕ → List ℕ → List (List ℕ)
+splitFrom opened closed [] = [] ∷ []
+splitFrom opened closed (x ∷ s) =
+    elim (anySide x) [
+      | opens ↦ pushed x (splitFrom (suc opened) closed s)
+      | closes ↦ pushed x (splitFrom opened (suc closed) s)
+      | neither ↦ elim (is "," x && eqb opened closed) [ true ↦ [] ∷ splitFrom opened closed s | false ↦ pushed x (splitFrom opened closed s) ]
+    ]
+
+abbrev pub splitTopLevelCommas : List ℕ → List (List ℕ)
+splitTopLevelCommas s = splitFrom 0 0 s

@@ -1,0 +1,209 @@
+-- The end of convert_syntax and of typst_to_latex: set braces, `lr`, sizing, percent, alignment, thin spaces. Assumes nothing.
+use mathlib.Core.Bool.{Bool, true, false, not, cond, _&&_, _||_}
+use mathlib.Core.List.{List, [], _∷_, _++_, reverse, reverseAux}
+use mathlib.Core.Option.{Option, none, some}
+use Prim.Native.Nat.{ℕ, zero, suc, pred, _+_, _-_}
+use Prim.Native.Char.{code}
+use lib.Dec.{eqb}
+use lib.ListN.{length, take, drop}
+use Rattle.spec.specs.Symbols.{bytes, is, letter, alnum, scriptSign, head, past, same, empty, until, inside, dropWhile, trim, starts, ends, contains}
+use Rattle.spec.specs.Sweep.{Turn, Rule, kept, sweep, reached, replace}
+use Rattle.spec.specs.Closing.{close, findMatchingParen, matchingDelimiter}
+use Rattle.spec.specs.Calls.{callAt}
+use Rattle.spec.specs.Result.{Result, passed, refused, stage}
+
+-- ---- escape_set_braces; the stack says of each open brace whether it groups, the last opened first
+abbrev pub groupsBehind : ℕ → Bool
+groupsBehind before = is "_" before || (is "^" before || (is "{" before || (is "}" before || (alnum before || is "\\" before))))
+
+-- an unmatched closer stays bare
+abbrev pub top : List Bool → Bool
+top [] = true
+top (b ∷ bs) = b
+
+abbrev pub popped : List Bool → List Bool
+popped [] = []
+popped (b ∷ bs) = bs
+
+abbrev pub brace : Bool → ℕ → List ℕ
+brace groups x = cond groups (x ∷ []) (code "\\" ∷ x ∷ [])
+
+unfoldable pub escapeBraces : List Bool → ℕ → List ℕ → List ℕ
+escapeBraces stack before [] = []
+escapeBraces stack before (x ∷ s) =
+    elim (is "{" x) [
+      | true ↦ brace (groupsBehind before) x ++ escapeBraces (groupsBehind before ∷ stack) x s
+      | false ↦ elim (is "}" x) [ true ↦ brace (top stack) x ++ escapeBraces (popped stack) x s | false ↦ x ∷ escapeBraces stack x s ]
+    ]
+
+unfoldable pub escapeSetBraces : List ℕ → List ℕ
+unfolding escapeBraces
+escapeSetBraces s = escapeBraces [] 0 s
+
+-- ---- convert_lr: the first symbol inside decides, and the last is dropped unread
+pub record Delimiters : Type 0 where
+  pub left : List ℕ
+  pub right : List ℕ
+
+abbrev pub delimiters : ℕ → Option Delimiters
+delimiters x =
+    elim (is "(" x) [
+      | true ↦ some (record { left = bytes "\\left("; right = bytes "\\right)" })
+      | false ↦ elim (is "|" x) [
+        | true ↦ some (record { left = bytes "\\left\\lvert "; right = bytes " \\right\\rvert" })
+        | false ↦ elim (is "[" x) [
+          | true ↦ some (record { left = bytes "\\left["; right = bytes "\\right]" })
+          | false ↦ elim (is "{" x) [ true ↦ some (record { left = bytes "\\left\\{"; right = bytes "\\right\\}" }) | false ↦ none ]
+        ]
+      ]
+    ]
+
+-- with an empty inside, or another first symbol, only `lr(` and `)` are dropped
+abbrev pub sizedBy : List ℕ → Option Delimiters → List ℕ
+sizedBy inner none = inner
+sizedBy inner (some d) = d .left ++ take (pred (pred (length inner))) (past inner) ++ d .right
+
+abbrev pub lrTurn : List ℕ → Option (List ℕ) → Turn
+lrTurn s none = kept s
+lrTurn s (some inner) = record { more = length (bytes "lr(") + length inner; fresh = sizedBy inner (delimiters (head inner)) }
+
+abbrev pub lr : Rule
+lr before s = lrTurn s (callAt (bytes "lr(") s)
+
+-- number 8: the inside is a delimiter alone, and the Rust panics
+abbrev pub bareInside : Option (List ℕ) → Bool
+bareInside none = false
+bareInside (some inner) = eqb (length inner) 1 && elim (delimiters (head inner)) [ none ↦ false | some d ↦ true ]
+
+abbrev pub bareDelimiter : List ℕ → Bool
+bareDelimiter s = bareInside (callAt (bytes "lr(") s)
+
+unfoldable pub convertLr : List ℕ → Result (List ℕ)
+unfolding sweep reached callAt
+convertLr s = elim (reached bareDelimiter lr 0 0 s) [ true ↦ refused 8 | false ↦ stage (sweep lr 0 0) s ]
+
+-- ---- size_delimiters_to_content; what was written so far, on this level, stands last first
+abbrev pub tall : List ℕ → Bool
+tall s =
+    contains (bytes "\\frac") s
+    || (contains (bytes "\\sqrt") s || (contains (bytes "\\binom") s || (contains (bytes "\\sum") s || contains (bytes "\\int") s)))
+
+-- behind the script group that begins with the sign x, if one does
+abbrev pub scriptGroup : ℕ → List ℕ → Option (List ℕ)
+scriptGroup x s = elim (scriptSign x && is "{" (head s)) [ true ↦ matchingDelimiter (code "{") (code "}") s | false ↦ none ]
+
+abbrev pub closing : ℕ → Option ℕ
+closing x = elim (is "(" x) [ true ↦ some (code ")") | false ↦ elim (is "[" x) [ true ↦ some (code "]") | false ↦ none ] ]
+
+abbrev pub alreadySized : List ℕ → Bool
+alreadySized o = starts (reverse (bytes "\\left")) o || starts (reverse (bytes "\\right")) o
+
+pub record Group : Type 0 where
+  pub closer : ℕ
+  pub content : List ℕ
+  pub behind : List ℕ
+
+abbrev pub ifTall : ℕ → List ℕ → List ℕ → Option Group
+ifTall c m r = elim (tall m) [ true ↦ some (record { closer = c; content = m; behind = r }) | false ↦ none ]
+
+abbrev pub groupOf : ℕ → List ℕ → Option (List ℕ) → Option Group
+groupOf c s none = none
+groupOf c s (some r) = ifTall c (inside s r) r
+
+abbrev pub groupWith : ℕ → List ℕ → Option ℕ → Option Group
+groupWith x s none = none
+groupWith x s (some c) = groupOf c s (close x c 0 s)
+
+-- the tall group that x opens before s
+unfoldable pub tallGroup : List ℕ → ℕ → List ℕ → Option Group
+unfolding close
+tallGroup o x s = elim (alreadySized o) [ true ↦ none | false ↦ groupWith x s (closing x) ]
+
+abbrev pub leftRight : ℕ → ℕ → List ℕ → List ℕ
+leftRight x c m = bytes "\\left" ++ (x ∷ (m ++ (bytes "\\right" ++ c ∷ [])))
+
+-- one step; `go` sizes what is shorter
+abbrev pub groupStep : (List ℕ → List ℕ → List ℕ) → List ℕ → ℕ → List ℕ → Option Group → List ℕ
+groupStep go o x s none = x ∷ go (x ∷ o) s
+groupStep go o x s (some g) = let m : List ℕ = leftRight x (g .closer) (go [] (g .content)) in m ++ go (reverseAux m o) (g .behind)
+
+abbrev pub scriptStep : (List ℕ → List ℕ → List ℕ) → List ℕ → ℕ → List ℕ → Option (List ℕ) → List ℕ
+scriptStep go o x s none = groupStep go o x s (tallGroup o x s)
+scriptStep go o x s (some r) = until (x ∷ s) r ++ go (reverseAux (until (x ∷ s) r) o) r
+
+unfoldable pub sizeStep : (List ℕ → List ℕ → List ℕ) → List ℕ → List ℕ → List ℕ
+unfolding tallGroup close
+sizeStep go o [] = []
+sizeStep go o (x ∷ s) = scriptStep go o x s (scriptGroup x s)
+
+-- k bounds the steps, of which each takes at least one symbol
+unfoldable pub sizeWith : ℕ → List ℕ → List ℕ → List ℕ
+unfolding sizeStep
+sizeWith zero o s = s
+sizeWith (suc k) o s = sizeStep (sizeWith k) o s
+
+unfoldable pub sizeDelimitersToContent : List ℕ → List ℕ
+unfolding sizeWith
+sizeDelimitersToContent s = sizeWith (length s) [] s
+
+-- ---- percent
+abbrev pub escapePercent : List ℕ → List ℕ
+escapePercent s = replace (bytes "%") (bytes "\\%") s
+
+-- ---- convert_alignment
+abbrev pub hasAlignment : List ℕ → Bool
+hasAlignment s = contains (bytes "&") s
+
+abbrev pub hasLineBreaks : List ℕ → Bool
+hasLineBreaks s = contains (bytes " \\\n") s || ends (bytes " \\") s
+
+-- a backslash at the very end
+abbrev pub lastBreak : List ℕ → List ℕ
+lastBreak s = cond (ends (bytes " \\") s) (take (pred (length s)) s ++ bytes "\\\\") s
+
+abbrev pub lineBreaks : List ℕ → List ℕ
+lineBreaks s = lastBreak (replace (bytes " \\\n") (bytes " \\\\\n") s)
+
+abbrev pub aligned : List ℕ → List ℕ
+aligned s = bytes "\\begin{aligned}\n" ++ trim s ++ bytes "\n\\end{aligned}"
+
+unfoldable pub convertAlignment : List ℕ → List ℕ
+unfolding replace
+convertAlignment s =
+    elim (hasAlignment s || hasLineBreaks s) [
+      | true ↦ elim (hasAlignment s) [ true ↦ aligned (lineBreaks s) | false ↦ lineBreaks s ]
+      | false ↦ s
+    ]
+
+-- ---- drop_thin_space_after_commands; p holds what stands before the `\;`, since the one before it, last first
+abbrev pub atomCommands : List (List ℕ)
+atomCommands = bytes "text" ∷ bytes "mathrm" ∷ bytes "operatorname" ∷ bytes "mathbf" ∷ bytes "mathit" ∷ []
+
+abbrev pub oneOf : List (List ℕ) → List ℕ → Bool
+oneOf [] w = false
+oneOf (v ∷ vs) w = same v w || oneOf vs w
+
+-- a control word alone, or with a braced argument, and none that sets an atom
+abbrev pub spacingCommand : List ℕ → List ℕ → Bool
+spacingCommand word tail = not (empty word) && ((empty tail || (is "{" (head tail) && is "}" (head (reverse tail)))) && not (oneOf atomCommands word))
+
+-- behind the last backslash
+abbrev pub spacing : List ℕ → Bool
+spacing s = let tail = dropWhile letter s in spacingCommand (until s tail) tail
+
+-- q is p from its first backslash on
+abbrev pub gapFrom : List ℕ → List ℕ → List ℕ
+gapFrom p [] = bytes "\\;"
+gapFrom p (b ∷ q) = cond (spacing (reverse (until p (b ∷ q)))) [] (bytes "\\;")
+
+abbrev pub gap : List ℕ → List ℕ
+gap p = gapFrom p (dropWhile (λ x. not (is "\\" x)) p)
+
+unfoldable pub thinSpaces : ℕ → List ℕ → List ℕ → List ℕ
+thinSpaces skip p [] = []
+thinSpaces (suc skip) p (x ∷ s) = thinSpaces skip p s
+thinSpaces zero p (x ∷ s) = elim (starts (bytes "\\;") (x ∷ s)) [ true ↦ gap p ++ thinSpaces 1 [] s | false ↦ x ∷ thinSpaces 0 (x ∷ p) s ]
+
+unfoldable pub dropThinSpaceAfterCommands : List ℕ → List ℕ
+unfolding thinSpaces
+dropThinSpaceAfterCommands s = thinSpaces 0 [] s

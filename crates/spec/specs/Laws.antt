@@ -1,0 +1,5 @@
+-- Laws about the definitions: what code and theorems use of them, apart from what has to be believed.
+pub mod Booleans
+pub mod Symbols
+pub mod Sweep
+pub mod Table

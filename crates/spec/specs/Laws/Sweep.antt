@@ -1,0 +1,71 @@
+-- Laws of sweeps.
+--     swept          the rest of a sweep, from place i on
+--     sweep-same     two rules that agree at every place give the same text
+--     sweep-absent   a rule that copies wherever its pattern does not start leaves a text without the pattern as it is
+-- Assumes nothing.
+use mathlib.Core.Path.{_≡_, refl, ap, ap₂, _∙_}
+use mathlib.Core.Bool.{Bool, true, false}
+use mathlib.Core.List.{List, [], _∷_, _++_}
+use mathlib.Core.Option.{Option, none, some}
+use Prim.Native.Nat.{ℕ, zero, suc, _+_, _<_, _≤_}
+use native.Mathlib.Nat.{add-suc, not-suc-le-zero}
+use native.Mathlib.Omega.{arith}
+use lib.ListN.{length, getD, drop, length-drop, drop-of-length-le}
+use lib.Seq.{drop-drop, getD-drop}
+use Rattle.spec.specs.Symbols.{starts, find}
+use Rattle.spec.specs.Sweep.{Turn, Rule, kept, sweep}
+
+unfoldable pub swept : Rule → List ℕ → ℕ → List ℕ
+swept rule s i = sweep rule (getD (0 ∷ s) i 0) 0 (drop i s)
+
+skipped : (rule : Rule) (before skip : ℕ) (s : List ℕ) → sweep rule before skip s ≡ sweep rule (getD (before ∷ s) skip 0) 0 (drop skip s)
+unfolding sweep
+skipped rule before zero [] = refl
+skipped rule before (suc skip) [] = refl
+skipped rule before zero (x ∷ s) = refl
+skipped rule before (suc skip) (x ∷ s) = skipped rule x skip s
+
+first-turn :
+    (rule : Rule) (before : ℕ) (s : List ℕ) → 0 < length s
+    → sweep rule before 0 s ≡ rule before s .fresh ++ sweep rule (getD s (rule before s .more) 0) 0 (drop (suc (rule before s .more)) s)
+unfolding sweep
+first-turn rule before [] h = absurd (not-suc-le-zero h)
+first-turn rule before (x ∷ s) h = ap (λ l. rule before (x ∷ s) .fresh ++ l) (skipped rule x (rule before (x ∷ s) .more) s)
+
+-- one turn at place i
+pub swept-turn :
+    (rule : Rule) (s : List ℕ) (i : ℕ) → i < length s → {t : Turn} → rule (getD (0 ∷ s) i 0) (drop i s) ≡ t
+    → swept rule s i ≡ t .fresh ++ swept rule s (i + 1 + t .more)
+unfolding sweep swept
+swept-turn rule s i inside {t} e =
+    let next : i + 1 + t .more ≡ suc (i + t .more) = omega arith in
+    first-turn rule (getD (0 ∷ s) i 0) (drop i s) (simp length-drop (omega arith))
+    ∙ (rw (e, next, getD-drop i s (t .more) 0, drop-drop (suc (t .more)) i s, add-suc i (t .more)))
+
+pub swept-end : (rule : Rule) (s : List ℕ) (i : ℕ) → length s ≤ i → swept rule s i ≡ []
+unfolding sweep swept
+swept-end rule s i h = rw (drop-of-length-le s h)
+
+pub sweep-same :
+    (r r′ : Rule) (n : ℕ) → ((before : ℕ) (s : List ℕ) → length s ≤ n → r before s ≡ r′ before s)
+    → (s : List ℕ) (before skip : ℕ) → length s ≤ n → sweep r before skip s ≡ sweep r′ before skip s
+unfolding sweep
+sweep-same r r′ n same [] before skip h = refl
+sweep-same r r′ n same (x ∷ s) before zero h =
+    ap₂ (λ (t : Turn) (rest : List ℕ). t .fresh ++ rest) (same before (x ∷ s) h) (sweep-same r r′ n same s x (r before (x ∷ s) .more) (omega arith))
+    ∙ ap (λ (t : Turn). r′ before (x ∷ s) .fresh ++ sweep r′ x (t .more) s) (same before (x ∷ s) h)
+sweep-same r r′ n same (x ∷ s) before (suc skip) h = sweep-same r r′ n same s x skip (omega arith)
+
+-- the rule copies wherever the pattern does not start
+pub record Waits (pattern : List ℕ) (rule : Rule) : Type 0 where
+  pub copies : (before : ℕ) (s : List ℕ) → starts pattern s ≡ false → rule before s ≡ kept s
+
+pub sweep-absent : {pattern : List ℕ} {rule : Rule} → Waits pattern rule → (s : List ℕ) (before : ℕ) → find pattern s ≡ none → sweep rule before 0 s ≡ s
+unfolding sweep find
+sweep-absent waits [] before e = refl
+sweep-absent {pattern} {rule} waits (x ∷ s) before e = go (starts pattern (x ∷ s)) refl (sweep-absent waits s x) e
+  where
+    go : (t : Bool) → starts pattern (x ∷ s) ≡ t → (find pattern s ≡ none → sweep rule x 0 s ≡ s) → _≡_ {A = Option (List ℕ)} (elim t [ true ↦ some (x ∷ s) | false ↦ find pattern s ]) none
+        → rule before (x ∷ s) .fresh ++ sweep rule x (rule before (x ∷ s) .more) s ≡ x ∷ s
+    go true b rest e = let z : _≡_ {A = ℕ} 0 1 = cc in absurd (omega arith)
+    go false b rest e = ap (λ (t : Turn). t .fresh ++ sweep rule x (t .more) s) (waits .copies before (x ∷ s) b) ∙ ap (λ l. x ∷ l) (rest e)

@@ -1,0 +1,85 @@
+-- Laws of texts: a place and what lies ahead of it, how a text begins, where a pattern is found. Assumes nothing.
+use mathlib.Core.Path.{_≡_, refl, sym, ap, _∙_}
+use mathlib.Core.Bool.{Bool, true, false, _&&_, and-true, and-false, false≢true}
+use mathlib.Core.List.{List, [], _∷_}
+use mathlib.Core.Option.{Option, none, some}
+use Prim.Native.Nat.{ℕ, zero, suc, _+_, _-_, _≤_, _<_}
+use native.Mathlib.Numerals.{add-one}
+use native.Mathlib.Omega.{arith}
+use lib.Dec.{eqb}
+use lib.ListN.{length, getD, drop, drop-of-length-le}
+use lib.Seq.{drop-cons}
+use borrow.Author.Tests.{eq-eqb, ne-eqb}
+use Rattle.spec.specs.Symbols.{head, past, starts, find}
+
+-- ---- places
+pub drop-step : (s : List ℕ) (i : ℕ) → i < length s → drop i s ≡ getD s i 0 ∷ drop (i + 1) s
+drop-step s i h = rw (add-one i) (drop-cons s i 0 h)
+
+pub head-drop : (s : List ℕ) (i : ℕ) → head (drop i s) ≡ getD s i 0
+head-drop [] zero = refl
+head-drop [] (suc i) = refl
+head-drop (x ∷ s) zero = refl
+head-drop (x ∷ s) (suc i) = head-drop s i
+
+pub past-drop : (s : List ℕ) (i : ℕ) → past (drop i s) ≡ drop (i + 1) s
+past-drop s i = rw (add-one i) (go s i)
+  where
+    go : (s : List ℕ) (i : ℕ) → past (drop i s) ≡ drop (suc i) s
+    go [] zero = refl
+    go [] (suc i) = refl
+    go (x ∷ s) zero = refl
+    go (x ∷ s) (suc i) = go s i
+
+-- ---- how a text begins
+pub starts-long : (pattern s : List ℕ) → starts pattern s ≡ true → length pattern ≤ length s
+starts-long [] s e = omega arith
+starts-long (k ∷ w) [] e = absurd (false≢true e)
+starts-long (k ∷ w) (x ∷ s) e = go (starts w s) refl (starts-long w s) e
+  where
+    go : (t : Bool) → starts w s ≡ t → (starts w s ≡ true → length w ≤ length s) → t && eqb x k ≡ true → suc (length w) ≤ suc (length s)
+    go true b longer e = let l = longer b in omega arith
+    go false b longer e = absurd (false≢true e)
+
+pub starts-short : (pattern s : List ℕ) → length s < length pattern → starts pattern s ≡ false
+starts-short pattern s h = go (starts pattern s) refl
+  where
+    go : (t : Bool) → starts pattern s ≡ t → t ≡ false
+    go true e = let l = starts-long pattern s e in absurd (omega arith)
+    go false e = refl
+
+pub starts-other : (k x : ℕ) (w s : List ℕ) → (x ≡ k → ⊥) → starts (k ∷ w) (x ∷ s) ≡ false
+starts-other k x w s other = rw (ne-eqb x k other) (and-false (starts w s))
+
+pub starts-same : (k x : ℕ) (w s : List ℕ) → x ≡ k → starts (k ∷ w) (x ∷ s) ≡ starts w s
+starts-same k x w s same = rw (eq-eqb x k same) (and-true (starts w s))
+
+-- ---- where a pattern is found
+pub find-here : (w s : List ℕ) → 0 < length s → starts w s ≡ true → find w s ≡ some s
+unfolding find
+find-here w [] h e = absurd (omega arith)
+find-here w (x ∷ s) h e = rw (e, find)
+
+pub find-past : (w : List ℕ) (x : ℕ) (s : List ℕ) → starts w (x ∷ s) ≡ false → find w (x ∷ s) ≡ find w s
+unfolding find
+find-past w x s e = rw (e, find)
+
+-- what is found begins with the pattern
+pub find-starts : (w s at : List ℕ) → find w s ≡ some at → starts w at ≡ true
+unfolding find
+find-starts w [] at e = let z : _≡_ {A = ℕ} 0 1 = cc in absurd (omega arith)
+find-starts w (x ∷ s) at e = go (starts w (x ∷ s)) refl (find-starts w s at) e
+  where
+    go : (t : Bool) → starts w (x ∷ s) ≡ t → (find w s ≡ some at → starts w at ≡ true)
+        → _≡_ {A = Option (List ℕ)} (elim t [ true ↦ some (x ∷ s) | false ↦ find w s ]) (some at) → starts w at ≡ true
+    go true b later e = let same : x ∷ s ≡ at = cc in ap (starts w) (sym same) ∙ b
+    go false b later e = later e
+
+-- the same from a place on
+pub find-drop : (w s : List ℕ) (i : ℕ) → i < length s → starts w (drop i s) ≡ false → find w (drop i s) ≡ find w (drop (i + 1) s)
+find-drop w s i h e =
+    ap (find w) (drop-step s i h) ∙ find-past w (getD s i 0) (drop (i + 1) s) (ap (starts w) (sym (drop-step s i h)) ∙ e)
+
+pub find-end : (w s : List ℕ) (i : ℕ) → length s ≤ i → find w (drop i s) ≡ none
+unfolding find
+find-end w s i h = ap (find w) (drop-of-length-le s h)

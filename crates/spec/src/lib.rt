@@ -1,0 +1,1 @@
+// The definitions of the conversion are in specs/; there is no code here.
