@@ -1,0 +1,111 @@
+//! `apply_definitions_outside_text` with its checks: each single definition is a stage, and number 6 after the put-back.
+//! The transcribed lines come from `math_conv.rs` (MIT licence, see judge.rs).
+
+use super::judge::{Stages, Trouble};
+use super::table::Record;
+use std::cell::RefCell;
+use std::collections::HashMap;
+
+pub const DEFINITIONS_MARK: char = '\u{FFFE}';
+
+/// The length of a text in symbols where each placeholder (mark, number, mark) counts as the block it stands for, and a
+/// placeholder within a block again. Read from the left, marks always come in pairs, since no stage makes or loses one
+/// while blocks are held.
+pub fn full_length(text: &str, mark: char, blocks: &[String]) -> usize {
+    let mut length = 0;
+    let mut symbols = text.chars();
+    while let Some(symbol) = symbols.next() {
+        if symbol != mark {
+            length += 1;
+            continue;
+        }
+        let number: String = symbols.by_ref().take_while(|&c| c != mark).collect();
+        let block = &blocks[number.parse::<usize>().expect("a number stands between two marks")];
+        length += full_length(block, mark, blocks);
+    }
+    length
+}
+
+/// Number 6: a mark remains after the put-back.
+pub fn refuse_lost_block(result: &str, mark: char, input: &str) -> Result<(), Trouble> {
+    if result.contains(mark) {
+        return Err(Trouble { number: 6, text: input.to_string(), at: mark as usize });
+    }
+    Ok(())
+}
+
+/// Longer names first, names of equal length in the table's order (the Rust's order among those is open).
+pub fn in_order(records: &[Record]) -> Vec<&Record> {
+    let mut sorted_defs: Vec<&Record> = records.iter().collect();
+    sorted_defs.sort_by_key(|record| std::cmp::Reverse(record.name.len()));
+    sorted_defs
+}
+
+/// The text with each `\text{` block held out, a numbered placeholder in its stead, and the blocks.
+fn hold_out(input: &str) -> (String, Vec<String>) {
+    let mut result = input.to_string();
+    let mut text_blocks: Vec<String> = Vec::new();
+    loop {
+        if let Some(start) = result.find("\\text{") {
+            let after_text = &result[start + 6..];
+            if let Some(end) = crate::find_matching_brace(after_text) {
+                let text_content = &result[start..=start + 6 + end];
+                let placeholder = format!("\u{FFFE}{len}\u{FFFE}", len = text_blocks.len());
+                text_blocks.push(text_content.to_string());
+                result = format!(
+                    "{}{}{}",
+                    &result[..start],
+                    placeholder,
+                    &result[start + 6 + end + 1..]
+                );
+                continue;
+            }
+        }
+        return (result, text_blocks);
+    }
+}
+
+pub fn apply_definitions_outside_text(
+    input: &str,
+    records: &[Record],
+    stages: &mut Stages,
+) -> Result<String, Trouble> {
+    let (mut result, text_blocks) = hold_out(input);
+    for Record { name, latex } in in_order(records) {
+        if name.len() == 1 {
+            continue;
+        }
+        let replacement = format!("{latex}$1");
+        result = with_pattern(name, |re| {
+            re.replace_all(&result, replacement.as_str()).to_string()
+        });
+        let length = full_length(&result, DEFINITIONS_MARK, &text_blocks);
+        stages.finished_length(&format!("definition {name}"), length)?;
+    }
+
+    for (i, block) in text_blocks.iter().enumerate() {
+        let placeholder = format!("\u{FFFE}{i}\u{FFFE}");
+        result = result.replace(&placeholder, block);
+    }
+    refuse_lost_block(&result, DEFINITIONS_MARK, input)?;
+    stages.finished("definitions put back", result)
+}
+
+/// The Rust's pattern for a name, compiled once.
+fn with_pattern<T>(name: &str, use_it: impl FnOnce(&regex::Regex) -> T) -> T {
+    thread_local! {
+        static PATTERNS: RefCell<HashMap<String, regex::Regex>> = RefCell::new(HashMap::new());
+    }
+    PATTERNS.with(|patterns| {
+        let mut patterns = patterns.borrow_mut();
+        // Generated tables bring ever new names: start again before they fill the memory.
+        if patterns.len() > 2_000 && !patterns.contains_key(name) {
+            patterns.clear();
+        }
+        let re = patterns.entry(name.to_string()).or_insert_with(|| {
+            let pattern = format!(r"\b{}([^a-zA-Z]|$)", regex::escape(name));
+            regex::Regex::new(&pattern).expect("a name of letters and digits makes a pattern")
+        });
+        use_it(re)
+    })
+}

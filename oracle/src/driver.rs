@@ -1,0 +1,196 @@
+//! The judge's commands. This file is a module below `math_conv.rs`, which is the crate's root (see oracle/build).
+
+mod cases;
+mod crosscheck;
+mod definitions;
+mod fractions;
+mod generate;
+mod judge;
+mod lengths;
+mod pieces;
+mod plain;
+mod record;
+mod rng;
+mod table;
+mod tables;
+mod traps;
+mod word_tables;
+mod words;
+
+use cases::Recorded;
+use judge::{Answer, Case};
+use std::io::{BufRead, Write};
+
+const USAGE: &str = "judge show FORMULA [NAME=LATEX ..]   the answer for display on and off
+judge answer < LINES                 a line: display work output formula-hex table-hex (- for no bytes),
+                                     answered by: number count output-hex
+judge record SEED [FILE]             writes the recorded cases (default oracle/cases.bin)
+judge dump [FILE]                    the recorded cases as lines: index family display work output formula-hex
+                                     table-hex number output-hex
+judge check [FILE]                   answers the recorded cases again and compares
+judge generate SEED N                N generated cases as such lines
+judge crosscheck SEED N [FILE]       judges N generated cases and all recorded ones against the unchanged functions";
+
+/// The build folder is target/oracle of the repository.
+const RECORDED: &str = concat!(env!("CARGO_MANIFEST_DIR"), "/../../oracle/cases.bin");
+
+/// Sizing calls itself once for each nested pair of parentheses, so give it room.
+const STACK: usize = 1 << 28;
+
+pub fn main() {
+    let thread = std::thread::Builder::new().stack_size(STACK).spawn(run).unwrap();
+    if !matches!(thread.join(), Ok(true)) {
+        std::process::exit(1);
+    }
+}
+
+fn run() -> bool {
+    let arguments: Vec<String> = std::env::args().skip(1).collect();
+    let words: Vec<&str> = arguments.iter().map(String::as_str).collect();
+    let number = |word: &str| word.parse::<u64>().expect("a number");
+    match words[..] {
+        ["show", formula, ref definitions @ ..] => show(formula, definitions),
+        ["answer"] => answer(),
+        ["record", seed] => record(number(seed), RECORDED),
+        ["record", seed, file] => record(number(seed), file),
+        ["check"] => check(RECORDED),
+        ["check", file] => check(file),
+        ["dump"] => dump(RECORDED),
+        ["dump", file] => dump(file),
+        ["generate", seed, n] => generate(number(seed), number(n)),
+        ["crosscheck", seed, n] => crosscheck(number(seed), number(n), RECORDED),
+        ["crosscheck", seed, n, file] => crosscheck(number(seed), number(n), file),
+        _ => {
+            eprintln!("{USAGE}");
+            false
+        }
+    }
+}
+
+fn show(formula: &str, definitions: &[&str]) -> bool {
+    let mut table = Vec::new();
+    for definition in definitions {
+        let (name, latex) = definition.split_once('=').unwrap_or((definition, ""));
+        table.extend(table::record_bytes(name.as_bytes(), latex.as_bytes()));
+    }
+    for display in [true, false] {
+        let case = Case {
+            formula: formula.as_bytes().to_vec(),
+            table: table.clone(),
+            display,
+            work: judge::WORK_BYTES,
+            output: judge::STAGE_SYMBOLS,
+        };
+        print!("display {}: ", if display { "on " } else { "off" });
+        match judge::judge(&case) {
+            Answer::Done(bytes) => println!("ok {} {}", bytes.len(), String::from_utf8_lossy(&bytes)),
+            Answer::Refused(number) => println!("refused {number}"),
+        }
+    }
+    true
+}
+
+fn answer() -> bool {
+    let mut out = std::io::BufWriter::new(std::io::stdout().lock());
+    for line in std::io::stdin().lock().lines() {
+        let line = line.expect("lines of text");
+        let Some(case) = cases::from_line(&line) else {
+            eprintln!("not a case: {line}");
+            return false;
+        };
+        let answer = judge::judge(&case);
+        let bytes = answer.bytes();
+        writeln!(out, "{} {} {}", answer.number(), bytes.len(), cases::hex(bytes)).unwrap();
+    }
+    true
+}
+
+fn record(seed: u64, file: &str) -> bool {
+    let recorded = record::record(seed);
+    let bytes = cases::to_bytes(&recorded);
+    assert_eq!(cases::from_bytes(&bytes).as_ref(), Some(&recorded), "the file reads back");
+    std::fs::write(file, &bytes).expect("the file can be written");
+    println!("{} cases, {} bytes", recorded.len(), bytes.len());
+    for (family, name, _) in generate::FAMILIES {
+        let of_family = recorded.iter().filter(|r| r.family == family);
+        println!("{family:2} {name:14} {}", of_family.count());
+    }
+    for number in 0..=10 {
+        println!("number {number:2}: {}", recorded.iter().filter(|r| r.answer.number() == number).count());
+    }
+    true
+}
+
+fn read_recorded(file: &str) -> Vec<Recorded> {
+    let bytes = std::fs::read(file).expect("the file of recorded cases");
+    cases::from_bytes(&bytes).expect("a file of recorded cases")
+}
+
+fn check(file: &str) -> bool {
+    let recorded = read_recorded(file);
+    let stale = recorded.iter().filter(|r| judge::judge(&r.case) != r.answer).count();
+    println!("{} recorded cases, {stale} answered otherwise than recorded", recorded.len());
+    stale == 0
+}
+
+fn print_lines(recorded: impl Iterator<Item = Recorded>) -> bool {
+    let mut out = std::io::BufWriter::new(std::io::stdout().lock());
+    for (index, Recorded { family, case, answer }) in recorded.enumerate() {
+        let (formula, table) = (cases::hex(&case.formula), cases::hex(&case.table));
+        let (display, number) = (u8::from(case.display), answer.number());
+        let latex = cases::hex(answer.bytes());
+        let line = format!("{index} {family} {display} {} {} {formula} {table} {number} {latex}", case.work, case.output);
+        if writeln!(out, "{line}").is_err() {
+            return false;
+        }
+    }
+    true
+}
+
+fn dump(file: &str) -> bool {
+    print_lines(read_recorded(file).into_iter())
+}
+
+fn generate(seed: u64, n: u64) -> bool {
+    print_lines((0..n).map(|index| {
+        let (family, case) = generate::any(seed, index);
+        Recorded { family, answer: judge::judge(&case), case }
+    }))
+}
+
+fn crosscheck(seed: u64, n: u64, file: &str) -> bool {
+    std::panic::set_hook(Box::new(|_| {}));
+    let fresh = check(file);
+    let recorded = std::sync::Arc::new(read_recorded(file));
+    let mut findings = crosscheck::Findings::default();
+    let workers = std::thread::available_parallelism().map_or(1, usize::from) as u64;
+    let part = move |worker: u64, recorded: &[Recorded]| {
+        let mut findings = crosscheck::Findings::default();
+        for r in recorded.iter().skip(worker as usize).step_by(workers as usize) {
+            crosscheck::check(&r.case, &mut findings);
+        }
+        for index in (worker..n).step_by(workers as usize) {
+            crosscheck::check(&generate::any(seed, index).1, &mut findings);
+        }
+        findings
+    };
+    let thread = |worker: u64| {
+        let recorded = recorded.clone();
+        std::thread::Builder::new().stack_size(STACK).spawn(move || part(worker, &recorded)).unwrap()
+    };
+    let threads: Vec<_> = (0..workers).map(thread).collect();
+    for thread in threads {
+        findings.join(thread.join().expect("a worker ends"));
+    }
+    println!("{n} generated cases (seed {seed})");
+    for (check, count) in &findings.counts {
+        println!("{count:8}  {check}");
+    }
+    for (check, formula) in &findings.shortest {
+        println!("shortest of \"{check}\": {:?}", String::from_utf8_lossy(formula));
+    }
+    for disagreement in findings.disagreements.iter().take(50) {
+        println!("DISAGREE {disagreement}");
+    }
+    findings.disagreements.is_empty() && fresh
+}

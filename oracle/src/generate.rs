@@ -1,0 +1,295 @@
+//! The families of cases. A case depends on its family, the seed and its index alone.
+
+use super::judge::{judge, Case, FORMULA_BYTES, STAGE_SYMBOLS, WORK_BYTES};
+use super::rng::Rng;
+use super::{lengths, pieces, plain, tables, traps};
+use super::word_tables::{FUNCTION_MAPPINGS, GREEK_LETTERS, OPERATOR_REPLACEMENTS, WORD_MAPPINGS};
+
+/// Number, name, and how often a generated case is of this family (0: written by hand, see traps.txt).
+pub const FAMILIES: [(u8, &str, usize); 26] = [
+    (0, "document", 0),
+    (1, "readings", 0),
+    (2, "order", 0),
+    (3, "held", 0),
+    (4, "scripts", 0),
+    (5, "fractions", 0),
+    (6, "finish", 0),
+    (7, "together", 0),
+    (8, "names", 400),
+    (9, "expressions", 2_000),
+    (10, "soup", 2_000),
+    (11, "mutated", 1_800),
+    (12, "bytes", 300),
+    (13, "calls", 700),
+    (14, "quotients", 1_500),
+    (15, "blocks", 900),
+    (16, "finishing", 600),
+    (17, "plain", 700),
+    (18, "near plain", 400),
+    (19, "defined", 1_400),
+    (20, "tables", 200),
+    (21, "long", 10),
+    (22, "growth", 12),
+    (23, "rounds", 60),
+    (24, "two refusals", 80),
+    (25, "buffers", 500),
+];
+
+pub fn family_number(name: &str) -> Option<u8> {
+    FAMILIES.iter().find(|family| family.1 == name).map(|family| family.0)
+}
+
+/// A case of any generated family, the frequent ones more often.
+pub fn any(seed: u64, index: u64) -> (u8, Case) {
+    let mut rng = Rng::new(seed, index);
+    let all = FAMILIES.iter().map(|family| family.2).sum();
+    let mut at = rng.below(all);
+    let mut number = 0;
+    for (family, _, often) in FAMILIES {
+        if at < often {
+            number = family;
+            break;
+        }
+        at -= often;
+    }
+    (number, of_family(number, &mut rng, 5))
+}
+
+/// A case of one family; `depth` bounds how deep expressions nest.
+pub fn of_family(family: u8, rng: &mut Rng, depth: usize) -> Case {
+    let deep = rng.between(1, depth);
+    let formula = match FAMILIES[usize::from(family)].1 {
+        "names" => names(rng),
+        "expressions" => pieces::expression(rng, deep),
+        "soup" => pieces::soup(rng, 3 * depth),
+        "mutated" => mutated(rng, deep),
+        "bytes" => return bytes(rng, 12 * depth),
+        "calls" => (0..rng.between(1, 3)).map(|_| pieces::call(rng, deep)).collect(),
+        "quotients" => quotients(rng, deep),
+        "blocks" => pieces::held(rng),
+        "finishing" => finishing(rng, deep),
+        "plain" => plain::plain(rng, deep),
+        "near plain" => {
+            let text = plain::plain(rng, deep);
+            pieces::mutate(rng, &text)
+        }
+        "defined" => return defined(rng, deep),
+        "tables" => return with_fault(rng, deep),
+        "long" => return long(rng),
+        "growth" => return growth(rng),
+        "rounds" => return rounds(rng),
+        "two refusals" => return two_refusals(rng),
+        "buffers" => return buffers(rng, deep),
+        _ => unreachable!("written by hand"),
+    };
+    usual(rng, formula.into_bytes())
+}
+
+/// Mostly no records, display on and room enough. What nested too richly is cut.
+fn usual(rng: &mut Rng, mut formula: Vec<u8>) -> Case {
+    formula.truncate(1_500);
+    let table = if rng.once_in(12) { tables::good(rng) } else { Vec::new() };
+    let output = if rng.once_in(30) { rng.below(40) } else { STAGE_SYMBOLS };
+    Case { formula, table, display: !rng.once_in(4), work: WORK_BYTES, output }
+}
+
+pub fn entry_names() -> Vec<&'static str> {
+    let rows = FUNCTION_MAPPINGS.iter().chain(&OPERATOR_REPLACEMENTS).chain(&GREEK_LETTERS).chain(&WORD_MAPPINGS);
+    let mut names: Vec<&str> = rows.map(|row| row.0).collect();
+    names.extend(["Phi", "Psi"]);
+    names.extend(pieces::CALLS);
+    names
+}
+
+/// One entry of the Rust's tables with neighbours on both sides.
+pub fn name_among_neighbours(name: &str, neighbours: usize) -> String {
+    let close = if name.ends_with('(') { ")" } else { "" };
+    match neighbours {
+        0 => format!("{name}{close}"),
+        1 => format!("{name}x{close} x{name}{close} 2{name}{close} _{name}2{close}"),
+        2 => format!("\\{name}x{close} {name}2{close} {name}_1{close} {name}'{close}/{name}{close}"),
+        3 => format!("\"{name}{close}\" \\text{{{name}{close}}} \\mathrm{{{name}{close}}} \\/{name}{close}\\/"),
+        _ => format!("{name}{name}{close}{close}.{name}.{close}({name}){close}{name}"),
+    }
+}
+
+fn names(rng: &mut Rng) -> String {
+    let entries = entry_names();
+    let mut text = String::new();
+    for _ in 0..rng.between(1, 5) {
+        if rng.once_in(3) {
+            let neighbours = rng.below(5);
+            text.push_str(&name_among_neighbours(rng.pick(&entries), neighbours));
+        } else {
+            text.push_str(rng.pick(&entries));
+        }
+        text.push_str(rng.pick(&["", " ", "x", "_", "\\", "2", ".", "(", ")", "\\/", "\"", "^"]));
+    }
+    text
+}
+
+fn mutated(rng: &mut Rng, deep: usize) -> String {
+    let hand = traps::lines();
+    let text = match rng.below(5) {
+        0 | 1 => rng.pick(&hand).formula.clone(),
+        2 => rng.pick(&hand).formula.clone() + &rng.pick(&hand).formula,
+        3 => pieces::held(rng),
+        _ => pieces::expression(rng, deep),
+    };
+    pieces::mutate(rng, &text)
+}
+
+fn bytes(rng: &mut Rng, most: usize) -> Case {
+    let odd = rng.pick(&[0, 0, 1, 40]);
+    let any = |rng: &mut Rng| rng.below(256) as u8;
+    let formula = (0..rng.between(1, most))
+        .map(|_| if rng.below(100) < odd { any(rng) } else { rng.pick(b" \t\n()[]{}/\\\"_^|&%,.;:abx01lr+-!") })
+        .collect();
+    let mut case = usual(rng, formula);
+    if rng.once_in(12) {
+        case.table = (0..rng.below(20)).map(|_| any(rng)).collect();
+    }
+    case
+}
+
+fn quotients(rng: &mut Rng, deep: usize) -> String {
+    let mut text = pieces::fraction(rng, deep);
+    for _ in 0..rng.below(3) {
+        text.push_str(rng.pick(&["/", " + ", " ", "/(", "}/", ")/", "]/", "\\/"]));
+        text.push_str(&pieces::operand(rng, deep));
+    }
+    if rng.once_in(4) {
+        let (open, close) = (["{", "x_(y_(", "(", "[", "x^{", " "], ["}", "))", ")", "]", "}/c", ""]);
+        text = format!("{}{text}{}", rng.pick(&open), rng.pick(&close));
+    }
+    text
+}
+
+/// Braces, `lr`, brackets, percent, rows and thin spaces, closed and not.
+fn finishing(rng: &mut Rng, deep: usize) -> String {
+    let parts = [
+        "{", "}", "\\{", "lr(", "lr(|", "lr([", "|)", "(", ")", "[", "]", "%", "&", " \\\n", " \\", "\\;", "\\left",
+        "\\right", "\\frac{a}{b}", "\\sum", "_{", "^{", "\\alpha", "\\text{a}", "a", "1", " ", "\"b\"", "\\mathrm{x}", "}",
+    ];
+    let mut text = String::new();
+    for _ in 0..rng.between(1, 12) {
+        if rng.once_in(8) {
+            text.push_str(&pieces::expression(rng, deep));
+        } else {
+            text.push_str(rng.pick(&parts));
+        }
+    }
+    text
+}
+
+fn defined(rng: &mut Rng, deep: usize) -> Case {
+    let table = tables::good(rng);
+    let names = tables::names(&table);
+    let mut text = String::new();
+    for _ in 0..rng.between(1, 6) {
+        match rng.below(5) {
+            0..=2 if !names.is_empty() => text.push_str(&names[rng.below(names.len())]),
+            3 => text.push_str(&pieces::held(rng)),
+            _ => text.push_str(&pieces::expression(rng, deep)),
+        }
+        text.push_str(rng.pick(&["", " ", "/", "(", ")", "_", "\\", "1", "\"", "\\/", "x", "\\text{", "}"]));
+    }
+    Case { table, ..usual(rng, text.into_bytes()) }
+}
+
+fn with_fault(rng: &mut Rng, deep: usize) -> Case {
+    let mut fault = rng.below(tables::FAULTS);
+    // Tables of the greatest size are few.
+    if matches!(fault, 10 | 13) && !rng.once_in(10) {
+        fault = 7;
+    }
+    let table = tables::faulty(rng, fault);
+    let formula = pieces::expression(rng, deep).into_bytes();
+    Case { table, ..usual(rng, formula) }
+}
+
+fn long(rng: &mut Rng) -> Case {
+    let bytes = rng.between(FORMULA_BYTES - 2, FORMULA_BYTES + 2);
+    let end = rng.pick(&["", "\u{1}", "a/b", "\"", "\\text{", "lr(|)", "(a/b)", "&"]);
+    let formula = lengths::formula_of(rng, bytes, end).into_bytes();
+    Case { formula, ..usual(rng, Vec::new()) }
+}
+
+fn growth(rng: &mut Rng) -> Case {
+    let growth = &lengths::GROWTHS[rng.below(lengths::GROWTHS.len())];
+    let target = rng.between(STAGE_SYMBOLS - 1, STAGE_SYMBOLS + 1);
+    lengths::growing(growth, target, !rng.once_in(3))
+}
+
+fn rounds(rng: &mut Rng) -> Case {
+    let core = rng.pick(&["a/a", "a", "a/abs(b \\/ c)", "a/b/c", "{a/b}/c", "lr(|)"]);
+    let (way, slashes) = (rng.below(lengths::WAYS), rng.pick(&[2, 5, 30, 44, 45, 50, 61, 62, 63, 64, 65, 66]));
+    let formula = lengths::nested(way, slashes, core).into_bytes();
+    Case { formula, ..usual(rng, Vec::new()) }
+}
+
+/// A case that two numbers (or more) refuse.
+fn two_refusals(rng: &mut Rng) -> Case {
+    let (first, second) = (rng.between(1, 10), rng.between(1, 10));
+    let mut case = Case { display: true, ..refused_by(rng, first) };
+    merge_refusal(rng, &mut case, second);
+    case
+}
+
+pub fn refused_by(rng: &mut Rng, number: usize) -> Case {
+    let mut case = Case { formula: b"x".to_vec(), table: Vec::new(), display: true, work: WORK_BYTES, output: STAGE_SYMBOLS };
+    merge_refusal(rng, &mut case, number);
+    case
+}
+
+/// Adds a reason for this number to a case, in front or behind.
+pub fn merge_refusal(rng: &mut Rng, case: &mut Case, number: usize) {
+    let more = match number {
+        1 => rng.pick(&["\u{1}", "\u{7f}", "\r", "\u{e9}", "\u{2044}", "\u{fffd}"]).to_string(),
+        2 => "+".repeat(FORMULA_BYTES + 1),
+        3 => {
+            let fault = rng.below(9);
+            case.table.extend(tables::faulty(rng, fault));
+            String::new()
+        }
+        4 => {
+            case.work = rng.pick(&[0, 1, 32_767]);
+            String::new()
+        }
+        5 => {
+            if !tables::names(&case.table).iter().any(|name| name == "over") {
+                case.table.extend(super::table::record_bytes(b"over", &[b'z'; 1_023]));
+            }
+            " over".repeat(9)
+        }
+        6 => rng.pick(&["\\text{a}\\text{b}0\\text{c}", "upright(a \"b\")", "\\mathrm{x}0\\text{b}"]).to_string(),
+        7 => lengths::nested(0, 65, "a"),
+        8 => rng.pick(&["lr(|)", "lr([)"]).to_string(),
+        9 => rng.pick(&["a/abs(b \\/ c)", "a/(b/abs(c \\/ d))"]).to_string(),
+        _ => {
+            case.output = rng.below(2);
+            String::new()
+        }
+    };
+    if rng.once_in(2) {
+        case.formula.extend([b" + ", more.as_bytes()].concat());
+    } else {
+        case.formula = [more.as_bytes(), b" + ", &case.formula].concat();
+    }
+}
+
+/// Output buffers at and around the answer's length, and work buffers around theirs.
+fn buffers(rng: &mut Rng, deep: usize) -> Case {
+    let formula = pieces::expression(rng, deep).into_bytes();
+    let mut case = Case { output: STAGE_SYMBOLS, ..usual(rng, formula) };
+    let length = judge(&case).bytes().len();
+    case.output = match rng.below(6) {
+        0 => length.saturating_sub(1),
+        1 | 2 => length,
+        3 => length + 1,
+        4 => rng.below(length + 1),
+        _ => 0,
+    };
+    case.work = rng.pick(&[32_768, 32_768, 32_768, 32_768, 40_000, 32_769, 32_767, 0]);
+    case
+}

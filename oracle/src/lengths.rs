@@ -1,0 +1,181 @@
+//! Formulas around the limits: 4,096 bytes, 8,192 symbols at a chosen stage, 64 rounds.
+
+use super::judge::{typst_to_latex, Case, Stages, STAGE_SYMBOLS, WORK_BYTES};
+use super::rng::Rng;
+use super::table::{self, record_bytes};
+
+/// A text that grows at one stage: `piece` again and again between `head` and `tail`. Where `pumped`, a definition writes
+/// some 7,800 symbols first, so that the formula can be short.
+pub struct Growth {
+    pub stage: &'static str,
+    pub head: &'static str,
+    pub piece: &'static str,
+    pub tail: &'static str,
+    pub pumped: bool,
+}
+
+const fn early(stage: &'static str, head: &'static str, piece: &'static str, tail: &'static str) -> Growth {
+    Growth { stage, head, piece, tail, pumped: false }
+}
+
+const fn late(stage: &'static str, head: &'static str, piece: &'static str, tail: &'static str) -> Growth {
+    Growth { stage, head, piece, tail, pumped: true }
+}
+
+pub const GROWTHS: [Growth; 63] = [
+    early("op", "", "op()", ""),
+    early("cases", "cases(", "a,", "a)"),
+    early("attach", "", "op()op()op()op()attach(,b:c)", ""),
+    // 8,192 symbols before attach, more on the way, fewer when it ends: the last call drops its third argument.
+    early("cases", "attach(,b:c)attach(,b:c)attach(,b:c)", "op()", "attach(,b:c,t:ddddddddddddddddddddddddddddddddddd)"),
+    early("bb", "", "bb()", ""),
+    early("bold", "", "op()bold()", ""),
+    early("binom", "", "op()op()binom(,)", ""),
+    early("upright", "upright(x)", "op()", ""),
+    // The first upright drops blanks and quotes, but op was too long before it.
+    early("op", "upright(              \"x\"            )", "op()", ""),
+    early("floor(", "", "floor()", ""),
+    early("ceil(", "", "ceil()", ""),
+    early("abs(", "", "abs()", ""),
+    early("cal(", "", "op()cal()", ""),
+    early("frak(", "", "op()frak()", ""),
+    early("upright(", "upright(upright(x))", "op()", ""),
+    early("quotes", "", "\"\"+", ""),
+    early("quotes", "", "op()+", "\"x"),
+    // Blanks before an opening quote are dropped again.
+    early("quotes", "", "\"\"+", "a                                                  \"b\""),
+    late("definition ab", "", "ab+", ""),
+    late("definition ab", "\\text{", "ab", "} ab"),
+    late("definition ab", "\\text{qqqqqqqqqqqqqqqqqqqqqqqqqqqqqqqqqqqqqqqqqqqqqqqqqqqqqqqqqqqqqqqqq}", "\"ab\"+", "+ab"),
+    late("definitions put back", "", "\\text{x}", "+"),
+    // Number 6 waits behind the put-back; a text too long before it is 5.
+    late("definition ab", "\\text{a}\\text{b}0\\text{c}", "ab+", ""),
+    late("sqrt", "", "sqrt()", ""),
+    late("sqrt", "", "sqrt(", ""),
+    late("sin(", "", "sin(", ""),
+    late("Phi(", "", "Phi(", ""),
+    late(">=", "", ">=", ""),
+    late("<-", "", "<-+", ""),
+    late("<<", "", "<<+", ""),
+    late("epsilon", "", "epsilon+", ""),
+    late("pi", "", "pi+", ""),
+    late("mu", "\\text{x}", "mu+", ""),
+    // A \mathrm block with a \text block inside: counted in full, and 6 at the end.
+    late("mu", "\\mathrm{\\text{xxxxxxxxxxxxxxxxxxxxxxxx}yyyyyyyyyyyyyyyy}", "mu+", ""),
+    late("mu", "\\mathrm{a}\\mathrm{b}0\\text{c}", "mu+", ""),
+    late("pi", "infinity+infinity+infinity", "pi+", ""),
+    late("xor", "", "xor+", ""),
+    late("in", "", "in+", ""),
+    late("...", "", "...+", ""),
+    late("lcm", "integral+integral+integral", "lcm+", ""),
+    late("mp", "", "mp+", ""),
+    late("words put back", "\\text{in}\\mathrm{in}", "oo+", ""),
+    late("Phi", "", "Phi+", ""),
+    late("Psi", "", "\"Psi\"+", ""),
+    late("_\\text{", "", "_\\text{}", ""),
+    late("_", "", "_aa+", ""),
+    late("^", "", "^aa+", ""),
+    late("^\\text{", "", "^\"\"+", ""),
+    late("round 1", "", "a/b+", ""),
+    late("round 1", "", "a/b+", "x                                                        /y"),
+    late("round 2", "", "a/(b/c)+", ""),
+    late("round 3", "", "a/(b/(c/d))+", ""),
+    // Within a round 9 comes before 5; 9 in the second round comes after 5 in the first.
+    late("^", "", "a/b+", "+ a/abs(b \\/ c)"),
+    late("round 1", "", "a/b+", "+ a/(b/abs(c \\/ d))"),
+    late("braces", "", "+{}", ""),
+    late("lr", "", "lr(||)", ""),
+    // Within lr 8 comes before 5.
+    late("braces", "", "lr(||)", "lr(|)"),
+    late("sizing", "", "(\\sum)+", ""),
+    late("sizing", "((\\frac{a}{b}))", "[\\int]+", ""),
+    late("percent", "", "%", ""),
+    late("alignment", "&", "+", ""),
+    late("alignment", "", " \\\n", ""),
+    // Shorter when all is done, but too long before.
+    late("alignment", "", "\\alpha\\;", ""),
+];
+
+const PUMPS: usize = 31;
+const PUMP: usize = 250;
+
+fn pump_table() -> Vec<u8> {
+    record_bytes(b"ab", &[b'z'; PUMP])
+}
+
+fn formula(growth: &Growth, pieces: usize, filler: usize) -> String {
+    let pump = if growth.pumped { "ab+".repeat(PUMPS) } else { String::new() };
+    let filler = "+".repeat(filler);
+    format!("{pump}{}{}{}{filler}", growth.head, growth.piece.repeat(pieces), growth.tail)
+}
+
+/// The length of the text when the stage has ended, without any limit; None where another number comes first.
+fn length_at(case: &Case, stage: &str) -> Option<usize> {
+    let records = table::read(&case.table)?;
+    let mut stages = Stages::new(usize::MAX);
+    let _ = typst_to_latex(std::str::from_utf8(&case.formula).ok()?, &records, case.display, &mut stages);
+    stages.lengths.iter().rev().find(|(name, _)| name == stage).map(|(_, length)| *length)
+}
+
+/// A case whose text has `target` symbols when the stage ends, as nearly as the formula's limit allows.
+pub fn growing(growth: &Growth, target: usize, display: bool) -> Case {
+    let table = if growth.pumped { pump_table() } else { Vec::new() };
+    let case = |pieces: usize, filler: usize| Case {
+        formula: formula(growth, pieces, filler).into_bytes(),
+        table: table.clone(),
+        display,
+        work: WORK_BYTES,
+        output: STAGE_SYMBOLS,
+    };
+    let length = |pieces: usize, filler: usize| length_at(&case(pieces, filler), growth.stage).unwrap_or(0);
+    let (two, four) = (length(2, 0), length(4, 0));
+    let slope = (four.saturating_sub(two) / 2).max(1);
+    let mut pieces = 2 + target.saturating_sub(two) / slope;
+    pieces = pieces.min(4_000 / growth.piece.len());
+    while pieces > 1 && length(pieces, 0) > target {
+        pieces -= 1;
+    }
+    let filler = target.saturating_sub(length(pieces, 0));
+    case(pieces, filler.min(4_096usize.saturating_sub(case(pieces, 0).formula.len())))
+}
+
+/// Ways to nest a fraction in another: the first six in the denominator, a round for each; the others in the numerator,
+/// where the text also grows with every round.
+const NESTINGS: [(&str, &str); 9] = [
+    ("a/(", ")"),
+    ("a/{", "}"),
+    ("a/b^{", "}"),
+    ("a/b[", "]"),
+    ("(a + b)/(c - ", ")"),
+    ("a/b^2(", ")"),
+    ("(", "/b)"),
+    ("{", "/b}"),
+    ("[", "/b]"),
+];
+pub const WAYS: usize = NESTINGS.len();
+
+/// Nested fractions with this many slashes around `core`.
+pub fn nested(way: usize, slashes: usize, core: &str) -> String {
+    let (open, close) = NESTINGS[way];
+    format!("{}{core}{}", open.repeat(slashes), close.repeat(slashes))
+}
+
+/// Pieces that fill a formula of 4,096 bytes by themselves: deep openings, endless chains, texts that double.
+pub const FILLERS: [&str; 24] = [
+    "%", "}", "]", ">=", "_", "^", "(", "\\", "/", "{", "op(", "lr(", "\"", "abs(", "_(", "\"\" ", "x_(", "\\text{", "a/", "[",
+    "&", "\\/", "\\;", " \\\n",
+];
+
+/// Openings, something tall, and as many closings: each pair is sized, one within the other.
+pub fn sized(pairs: usize, filler: usize) -> String {
+    format!("{}\\sum{}{}", "([".repeat(pairs / 2), "])".repeat(pairs / 2), "+".repeat(filler))
+}
+
+/// A formula of exactly this many bytes, from pieces that are cheap to judge.
+pub fn formula_of(rng: &mut Rng, bytes: usize, end: &str) -> String {
+    let piece = rng.pick(&["+", "a", "1", "x + ", "in ", "2pi ", "a b ", "\n", "f(x) "]);
+    let mut text = piece.repeat(bytes / piece.len() + 1);
+    text.truncate(bytes.saturating_sub(end.len()));
+    text.push_str(end);
+    text
+}

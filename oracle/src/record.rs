@@ -1,0 +1,201 @@
+//! The recorded cases: all cases written by hand, each entry of the Rust's tables among neighbours, the limits, every
+//! pair of refusals, and a share of each generated family. The same seed gives the same file.
+
+use super::cases::Recorded;
+use super::generate::{self, entry_names, family_number, name_among_neighbours, of_family};
+use super::judge::{judge, Case, STAGE_SYMBOLS, WORK_BYTES};
+use super::rng::Rng;
+use super::table::record_bytes;
+use super::{lengths, tables, traps};
+
+/// How many cases of each generated family, and how many bytes their formulas may have.
+const SHARES: [(&str, usize, usize); 13] = [
+    ("names", 40, 100),
+    ("expressions", 260, 110),
+    ("soup", 220, 90),
+    ("mutated", 260, 90),
+    ("bytes", 120, 60),
+    ("calls", 100, 110),
+    ("quotients", 240, 110),
+    ("blocks", 140, 110),
+    ("finishing", 140, 100),
+    ("plain", 120, 120),
+    ("near plain", 60, 110),
+    ("defined", 260, 110),
+    ("buffers", 140, 90),
+];
+
+struct Recorder {
+    seed: u64,
+    recorded: Vec<Recorded>,
+}
+
+impl Recorder {
+    fn add(&mut self, family: &str, case: Case) {
+        let family = family_number(family).expect("a family");
+        self.recorded.push(Recorded { family, answer: judge(&case), case });
+    }
+
+    fn rng(&self, index: usize) -> Rng {
+        Rng::new(self.seed, index as u64)
+    }
+}
+
+fn roomy(formula: &str, table: &[u8], display: bool) -> Case {
+    Case {
+        formula: formula.as_bytes().to_vec(),
+        table: table.to_vec(),
+        display,
+        work: WORK_BYTES,
+        output: STAGE_SYMBOLS,
+    }
+}
+
+pub fn record(seed: u64) -> Vec<Recorded> {
+    let mut recorder = Recorder { seed, recorded: Vec::new() };
+    by_hand(&mut recorder);
+    entries(&mut recorder);
+    shares(&mut recorder);
+    faults(&mut recorder);
+    limits(&mut recorder);
+    refusals(&mut recorder);
+    recorder.recorded
+}
+
+fn by_hand(recorder: &mut Recorder) {
+    for (i, line) in traps::lines().into_iter().enumerate() {
+        let family = generate::FAMILIES[usize::from(line.family)].1;
+        let on = roomy(&line.formula, &line.table, true);
+        let off = roomy(&line.formula, &line.table, false);
+        // Without display only where that matters, and now and then where it must not.
+        let off_too = i % 5 == 0 || judge(&on) != judge(&off);
+        recorder.add(family, on);
+        if off_too {
+            recorder.add(family, off);
+        }
+    }
+}
+
+fn entries(recorder: &mut Recorder) {
+    for (i, name) in entry_names().into_iter().enumerate() {
+        for neighbours in [1, 2, 3, 4] {
+            let formula = name_among_neighbours(name, neighbours);
+            recorder.add("names", roomy(&formula, &[], (i + neighbours) % 3 != 0));
+        }
+    }
+}
+
+fn shares(recorder: &mut Recorder) {
+    for (family, count, most) in SHARES {
+        let number = family_number(family).expect("a family");
+        let mut added = 0;
+        for index in 0.. {
+            let mut rng = recorder.rng(index + 1_000_000 * usize::from(number));
+            let case = of_family(number, &mut rng, 3);
+            if case.formula.len() <= most && case.table.len() <= 200 {
+                recorder.add(family, case);
+                added += 1;
+            }
+            if added == count {
+                break;
+            }
+        }
+    }
+}
+
+/// Every fault of number 3 three times; the widest tables once.
+fn faults(recorder: &mut Recorder) {
+    for fault in 0..tables::FAULTS {
+        let times = if matches!(fault, 10 | 13) { 1 } else { 3 };
+        for time in 0..times {
+            let mut rng = recorder.rng(100 * fault + time);
+            let table = tables::faulty(&mut rng, fault);
+            recorder.add("tables", roomy("ab + mab/zz q1", &table, true));
+        }
+    }
+    // The longest name with the longest LaTeX and with none, and the same name one byte too long to match.
+    let name = "n".repeat(63);
+    for latex in [1_023, 0] {
+        let table = record_bytes(name.as_bytes(), &vec![b'x'; latex]);
+        recorder.add("tables", roomy(&format!("{name}/2 n{name} {name}1"), &table, true));
+    }
+    // A definition that grows to the limit (or one symbol above), and one that shortens the text again afterwards.
+    let table = [record_bytes(b"grow", "ab ".repeat(341).as_bytes()), record_bytes(b"ab", b"")].concat();
+    for more in ["", "+"] {
+        recorder.add("growth", roomy(&("grow+".repeat(8) + more), &table, true));
+    }
+}
+
+fn limits(recorder: &mut Recorder) {
+    for (i, bytes) in (4_094..=4_098).enumerate() {
+        let mut rng = recorder.rng(i);
+        let formula = lengths::formula_of(&mut rng, bytes, "a/b");
+        let output = if bytes == 4_096 { STAGE_SYMBOLS } else { 4_000 };
+        recorder.add("long", Case { output, ..roomy(&formula, &[], true) });
+        recorder.add("long", roomy(&formula.replace("a/b", "\u{1}/b"), &[], false));
+    }
+    for (i, filler) in lengths::FILLERS.into_iter().enumerate() {
+        // The whole 4,096 bytes where the limit of 8,192 symbols is near, else enough to go deep.
+        let bytes = if i % 3 == 0 { 4_096 } else { 1_200 };
+        let formula = filler.repeat(bytes / filler.len());
+        recorder.add("long", Case { output: 100 * i, ..roomy(&formula, &[], i % 4 != 3) });
+    }
+    for (pairs, filler) in [(628, 24), (628, 25), (630, 0), (1_600, 0)] {
+        recorder.add("growth", Case { output: 8_000, ..roomy(&lengths::sized(pairs, filler), &[], true) });
+    }
+    recorder.add("growth", roomy(&lengths::sized(628, 24), &[], true));
+    for (i, growth) in lengths::GROWTHS.iter().enumerate() {
+        for target in [STAGE_SYMBOLS, STAGE_SYMBOLS + 1] {
+            let mut case = lengths::growing(growth, target, i % 5 != 0 || growth.stage.starts_with("round"));
+            // An answer of 8,192 bytes takes room: of most, only that it is not too long (10 after 5).
+            if i % 12 != 0 {
+                case.output = 8_000 + i;
+            }
+            recorder.add("growth", case);
+        }
+        if growth.pumped && i % 4 == 0 {
+            let mut case = lengths::growing(growth, STAGE_SYMBOLS - 1, true);
+            case.output = 0;
+            recorder.add("growth", case);
+        }
+    }
+    for core in ["a/a", "a", "a/abs(b \\/ c)"] {
+        for way in 0..lengths::WAYS {
+            let counts: &[usize] = match way {
+                0 | 1 => &[1, 2, 62, 63, 64, 65, 66],
+                2..=5 => &[1, 2, 62, 63, 64, 65],
+                _ => &[2, 3, 40, 43, 47, 53],
+            };
+            for &slashes in counts {
+                let mut case = roomy(&lengths::nested(way, slashes, core), &[], true);
+                // Of long answers, only that they are not too long.
+                case.output = if way > 1 && slashes > 30 { 7 * slashes } else { case.output };
+                recorder.add("rounds", case);
+            }
+        }
+    }
+    recorder.add("rounds", roomy(&lengths::nested(0, 66, "a"), &[], false));
+}
+
+/// Every number alone, and every pair in both places.
+fn refusals(recorder: &mut Recorder) {
+    for first in 1..=10 {
+        for second in 1..=10 {
+            let mut rng = recorder.rng(1_000 + 10 * first + second);
+            let mut case = generate::refused_by(&mut rng, first);
+            if second != first {
+                generate::merge_refusal(&mut rng, &mut case, second);
+            }
+            // Once is enough where a formula of more than 4,096 bytes is part of it.
+            if case.formula.len() <= 4_096 || first > second {
+                recorder.add("two refusals", case);
+            }
+        }
+    }
+    for work in [0, 1, 32_767, 32_768, 32_769, 40_000] {
+        for output in [0, 10, 11, 12] {
+            recorder.add("buffers", Case { work, output, ..roomy("a/b", &[], true) });
+        }
+        recorder.add("buffers", Case { work, output: 0, ..roomy("", &[], true) });
+    }
+}
