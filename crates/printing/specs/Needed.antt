@@ -1,0 +1,68 @@
+-- What the grammar asks besides its rules is needed: for each of the three demands a sum that lacks only this one, and of which the theorem is false.
+--     slash-misprints, script-misprints     a slash in a numerator, a script in a script: what is printed is not the sum's LaTeX
+--     parentheses-alike                     a lone atom in operand parentheses: two texts, one LaTeX
+use mathlib.Core.Path.{_≡_, refl, sym, ap, _∙_}
+use mathlib.Core.Bool.{Bool, true, false, true≢false}
+use mathlib.Core.List.{List, []}
+use Prim.Native.Nat.{ℕ}
+use Prim.Native.Char.{code}
+use Rattle.spec.specs.Symbols.{bytes, same}
+use Rattle.spec.specs.Result.{Result, passed, refused}
+use Rattle.spec.specs.Pipeline.{typstToLatex}
+use Rattle.spec.specs.Grammar.{Atom, variable, Sum, product, factor, Factor, scripted, fraction, atom, enclosed, bare, inner, proper, text, latex}
+
+abbrev alone : Factor → Sum
+alone f = product (factor f)
+
+abbrev a : Atom
+a = variable (code "a") refl
+
+abbrev b : Atom
+b = variable (code "b") refl
+
+abbrev c : Atom
+c = variable (code "c") refl
+
+-- `(a/b)/c`
+abbrev slashed : Sum
+slashed = alone (fraction (enclosed (alone (fraction (atom a) (atom b)))) (atom c))
+
+-- `a_(b_(c))`
+abbrev twice : Sum
+twice = alone (scripted a (inner (alone (scripted b (inner (alone (scripted c bare bare))) bare))) bare)
+
+-- `a/(b)` and `a/b`
+abbrev wrapped : Sum
+wrapped = alone (fraction (atom a) (enclosed (alone (scripted b bare bare))))
+
+abbrev unwrapped : Sum
+unwrapped = alone (fraction (atom a) (atom b))
+
+-- ---- none of them is proper
+abbrev printed : List ℕ → Result (List ℕ) → Bool
+printed s (passed x) = same x s
+printed s (refused n) = false
+
+misprints : (s : Sum) → same (latex s) (latex s) ≡ true → printed (latex s) (typstToLatex [] true (text s)) ≡ false → typstToLatex [] true (text s) ≡ passed (latex s) → ⊥
+misprints s self other e = true≢false (sym self ∙ sym (ap (printed (latex s)) e) ∙ other)
+
+pub slash-improper : proper slashed ≡ false
+slash-improper = refl
+
+pub slash-misprints : typstToLatex [] true (text slashed) ≡ passed (latex slashed) → ⊥
+unfolding typstToLatex text latex
+slash-misprints = misprints slashed refl refl
+
+pub script-improper : proper twice ≡ false
+script-improper = refl
+
+pub script-misprints : typstToLatex [] true (text twice) ≡ passed (latex twice) → ⊥
+unfolding typstToLatex text latex
+script-misprints = misprints twice refl refl
+
+pub parentheses-improper : proper wrapped ≡ false
+parentheses-improper = refl
+
+pub parentheses-alike : (latex wrapped ≡ latex unwrapped) × (text wrapped ≡ text unwrapped → ⊥)
+unfolding text latex
+parentheses-alike = (refl, λ e. true≢false (ap (λ x. same x (bytes "a/(b)")) e))

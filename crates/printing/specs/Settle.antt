@@ -1,0 +1,120 @@
+-- Rounds until nothing changes. That they stop only when every fraction is stacked follows from the round itself: no slash is counted.
+use mathlib.Core.Path.{_≡_, refl, sym, ap, _∙_}
+use mathlib.Core.Bool.{Bool, true, false, cond, true≢false}
+use mathlib.Core.List.{List, [], _∷_}
+use mathlib.Core.Option.{Option, some}
+use Prim.Native.Nat.{ℕ, zero, suc, _+_, _≤_}
+use native.Mathlib.Nat.{zero-add, suc-add}
+use native.Mathlib.Omega.{arith}
+use lib.Dec.{eqb, ltb, eqb→eq, eqb-refl}
+use lib.ListN.{length}
+use Rattle.spec.specs.Symbols.{bytes, same}
+use Rattle.spec.specs.Result.{Result, passed, refused, mostSymbols}
+use Rattle.spec.specs.Fractions.{frac, convertRegularFractions, settle}
+use Rattle.printing.specs.Tree.{Tree, Script, Style, atom, fraction, group, row, bare, symbol, inner, depth, depthScript, Plain, braced, unsized, write, writeScript}
+use Rattle.printing.specs.Classes.{holds, T-true, and-left, and-right, and-intro, not-below}
+use Rattle.printing.specs.Round.{round-plain}
+
+pub same-eq : (s t : List ℕ) → same s t ≡ true → s ≡ t
+same-eq [] [] h = refl
+same-eq [] (y ∷ t) h = absurd (true≢false (sym h))
+same-eq (x ∷ s) [] h = absurd (true≢false (sym h))
+same-eq (x ∷ s) (y ∷ t) h =
+    let heads : x ≡ y = eqb→eq x y (holds (eqb x y) (and-left (eqb x y) (same s t) h)) in
+    let tails : s ≡ t = same-eq s t (and-right (eqb x y) (same s t) h) in
+    cc
+
+pub same-refl : (s : List ℕ) → same s s ≡ true
+same-refl [] = refl
+same-refl (x ∷ s) = and-intro (eqb x x) (same s s) (T-true (eqb x x) (eqb-refl x)) (same-refl s)
+
+-- ---- from its depth on a tree's text does not change
+mutual
+  unfolding write writeScript
+
+  pub deep : (s : Style) (n m : ℕ) (t : Tree) → depth t ≤ n → depth t ≤ m → write s n t ≡ write s m t
+  deep s n m (atom a l h) p q = rw (deep-script s n m (bytes "_") (s .low) l (omega arith) (omega arith), deep-script s n m (bytes "^") (s .high) h (omega arith) (omega arith))
+  deep s zero m (fraction t u) p q = absurd (omega arith)
+  deep s (suc n) zero (fraction t u) p q = absurd (omega arith)
+  deep s (suc n) (suc m) (fraction t u) p q = ap (frac (write s 0 t)) (deep s n m u (omega arith) (omega arith))
+  deep s n m (group t) p q = rw (deep s n m t p q)
+  deep s n m (row t j u) p q = rw (deep s n m t (omega arith) (omega arith), deep s n m u (omega arith) (omega arith))
+
+  pub deep-script : (s : Style) (n m : ℕ) (mark : List ℕ) (b : Bool) (c : Script) → depthScript c ≤ n → depthScript c ≤ m → writeScript s n mark b c ≡ writeScript s m mark b c
+  deep-script s n m mark b bare p q = refl
+  deep-script s n m mark b (symbol c e) p q = refl
+  deep-script s n m mark b (inner t) p q = rw (deep (unsized s) n m t p q)
+
+some-injective : {s t : List ℕ} → _≡_ {A = Option (List ℕ)} (some s) (some t) → s ≡ t
+some-injective e = cc
+
+module _ (t : Tree) (plain : Plain t) where
+  -- ---- a round that changes nothing is followed by none that does
+  stays : (n j : ℕ) → write braced (suc n) t ≡ write braced n t → write braced (j + n) t ≡ write braced n t
+  stays n zero e = rw (zero-add n)
+  stays n (suc j) e =
+      rw (suc-add j n) (some-injective (sym (round-plain (j + n) t plain) ∙ ap convertRegularFractions (stays n j e) ∙ round-plain n t plain) ∙ e)
+
+  settled : (n : ℕ) → same (write braced (suc n) t) (write braced n t) ≡ true → write braced n t ≡ write braced (depth t) t
+  settled n e = sym (stays n (depth t) (same-eq _ _ e)) ∙ deep braced (depth t + n) (depth t) t (omega arith) (omega arith)
+
+  -- ---- what a round comes to: number 9 is not met
+  last-round : (n : ℕ) → settle 0 (write braced n t) ≡ cond (same (write braced (suc n) t) (write braced n t)) (passed (write braced n t)) (refused 7)
+  unfolding settle
+  last-round n = rw (round-plain n t plain, settle)
+
+  -- the text is the same; the next is too long; the rounds that are left
+  abbrev going : ℕ → ℕ → Bool → Bool → Result (List ℕ)
+  going k n true c = passed (write braced n t)
+  going k n false true = refused 5
+  going k n false false = settle k (write braced (suc n) t)
+
+  next-round : (k n : ℕ) → settle (suc k) (write braced n t) ≡ going k n (same (write braced (suc n) t) (write braced n t)) (ltb mostSymbols (length (write braced (suc n) t)))
+  unfolding settle
+  next-round k n = rw (round-plain n t plain, settle) (go (same (write braced (suc n) t) (write braced n t)) (ltb mostSymbols (length (write braced (suc n) t))))
+    where
+      go : (b c : Bool)
+          → (elim b as (λ b. Result (List ℕ)) [
+            | true ↦ passed (write braced n t)
+            | false ↦ elim c as (λ c. Result (List ℕ)) [ true ↦ refused 5 | false ↦ settle k (write braced (suc n) t) ]
+          ])
+          ≡ going k n b c
+      go true c = refl
+      go false true = refl
+      go false false = refl
+
+  -- ---- what the rounds come to, if no number refuses
+  abbrev Only : Result (List ℕ) → Type 0
+  Only r = (x : List ℕ) → r ≡ passed x → x ≡ write braced (depth t) t
+
+  pub settle-only : (k n : ℕ) → Only (settle k (write braced n t))
+  settle-only zero n x e = go (same (write braced (suc n) t) (write braced n t)) refl (sym (last-round n) ∙ e)
+    where
+      go : (b : Bool) → same (write braced (suc n) t) (write braced n t) ≡ b → cond b (passed (write braced n t)) (refused 7) ≡ passed x → x ≡ write braced (depth t) t
+      go true h e = let first : x ≡ write braced n t = cc in first ∙ settled n h
+      go false h e = cc
+  settle-only (suc k) n x e =
+      go (same (write braced (suc n) t) (write braced n t)) refl (ltb mostSymbols (length (write braced (suc n) t))) (settle-only k (suc n) x) (sym (next-round k n) ∙ e)
+    where
+      go : (b : Bool) → same (write braced (suc n) t) (write braced n t) ≡ b → (c : Bool) → (settle k (write braced (suc n) t) ≡ passed x → x ≡ write braced (depth t) t)
+          → going k n b c ≡ passed x
+          → x ≡ write braced (depth t) t
+      go true h c later e = let first : x ≡ write braced n t = cc in first ∙ settled n h
+      go false h true later e = cc
+      go false h false later e = later e
+
+  -- ---- enough rounds within number 5's limit come to an end
+  module _ (short : (n : ℕ) → length (write braced n t) ≤ mostSymbols) where
+    pub settle-does : (k n : ℕ) → depth t ≤ k + n → settle k (write braced n t) ≡ passed (write braced (depth t) t)
+    settle-does zero n h =
+        let still : write braced (suc n) t ≡ write braced n t = deep braced (suc n) n t (omega arith) (omega arith) in
+        last-round n ∙ rw (still, same-refl (write braced n t)) (ap passed (deep braced n (depth t) t (omega arith) (omega arith)))
+    settle-does (suc k) n h =
+        next-round k n
+        ∙ ap (going k n (same (write braced (suc n) t) (write braced n t))) (not-below mostSymbols (length (write braced (suc n) t)) (short (suc n)))
+        ∙ go (same (write braced (suc n) t) (write braced n t)) refl (settle-does k (suc n) (omega arith))
+      where
+        go : (b : Bool) → same (write braced (suc n) t) (write braced n t) ≡ b → settle k (write braced (suc n) t) ≡ passed (write braced (depth t) t)
+            → going k n b false ≡ passed (write braced (depth t) t)
+        go true e later = ap passed (settled n e)
+        go false e later = later

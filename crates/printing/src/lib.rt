@@ -1,0 +1,1 @@
+// What a plain formula prints is proved in specs/; there is no code here.

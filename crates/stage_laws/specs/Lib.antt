@@ -1,0 +1,7 @@
+-- What holds of the stages' results.
+pub mod Late
+pub mod Each
+pub mod Calls
+pub mod Quotes
+pub mod Stages
+pub mod Outside
