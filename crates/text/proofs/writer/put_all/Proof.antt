@@ -1,0 +1,50 @@
+-- `text::writer::put_all` meets its contract. The loop's invariant: the first i bytes have been appended. Assumes nothing.
+use Prim.Native.Nat.{_-_, _≤_}
+use mathlib.Core.Path.{_≡_, refl, ap, _∙_}
+use native.Mathlib.Omega.{arith}
+use lib.ListN.{length, take}
+use lib.Seq.{take-all}
+use Rattle.text.specs.Writer.{Appended, appended-none, next-room, next-appended, length-puts}
+use Rattle.text.proofs.writer.put_all.Statement.{statement}
+use Rattle.text.proofs.writer.put_all.Tie as tie
+
+abbrev Inv-loop : tie.InvT-loop
+Inv-loop work₀ to cap count bytes end₀ i₀ i-end work end i =
+    (i ≤ length bytes) × (i-end ≡ length bytes) × Appended work₀ work to cap count end (take i bytes)
+
+abbrev μ-loop : tie.MeasureT-loop
+μ-loop work₀ to cap count bytes end₀ i₀ i-end work end i = length bytes - i
+
+loop-holds : tie.Need-loop-holds Inv-loop μ-loop
+loop-holds c = (omega arith, refl, appended-none _ _ _ _)
+
+shared-slice-read-put : tie.Need-shared-slice-read-put Inv-loop μ-loop
+shared-slice-read-put c = omega arith
+
+put-requires : tie.Need-put-requires Inv-loop μ-loop
+put-requires c κs =
+    let l = c .before .before .before in
+    next-room _ (l .loop .i) (l .loop .inv .2) (omega arith) (l .before .before .before .pre)
+
+add-i : tie.Need-add-i Inv-loop μ-loop
+add-i c = omega arith
+
+loop-less : tie.Need-loop-less Inv-loop μ-loop
+loop-less c = omega arith
+
+loop-again : tie.Need-loop-again Inv-loop μ-loop
+loop-again c =
+    let l = c .before .before .before .before .before .before in
+    (omega arith, refl, next-appended _ (l .loop .i) (l .loop .inv .2) (omega arith) (c .before .before .put .ensures))
+
+same-length : tie.Need-same-length Inv-loop μ-loop
+same-length c = ap length (c .before .loop .inv .2 .work) ∙ length-puts _ _ _ _ _
+
+returns : tie.Need-returns Inv-loop μ-loop
+returns c =
+    let bytes = c .before .before .before .before .args .bytes .now in
+    let all : length bytes ≤ c .before .loop .i = omega arith in
+    rw (← take-all (c .before .loop .i) bytes all) (c .before .loop .inv .2)
+
+pub put-all-spec : {M : Type 1} → statement M
+put-all-spec = tie.close (tie.spec Inv-loop μ-loop loop-holds shared-slice-read-put put-requires add-i loop-less loop-again same-length returns)

@@ -1,0 +1,232 @@
+-- How far a formula has come, and what every stage promises.
+--     number      document 01's number of a refusal
+--     shown       what a progress means: the text in its place of the buffer, or the refusal
+--     Ready       what a stage asks: the work buffer is large enough, and the text well placed
+--     Answered    what a stage ensures: an equation with its definition. `Staged`: and what lies beyond the two regions is as it was
+-- Assumes nothing.
+use mathlib.Core.Path.{_≡_, refl, sym, ap, _∙_, subst}
+use mathlib.Core.Bool.{cond}
+use mathlib.Core.List.{List}
+use mathlib.Core.Logic.{_⊎_, inl, inr, ⊎-elim}
+use Prim.Native.Nat.{ℕ, _+_, _-_, _≤_, _<_}
+use native.Mathlib.Decide.{decLt}
+use native.Mathlib.Omega.{arith}
+use lib.Dec.{ltb}
+use lib.ListN.{length, drop}
+use borrow.Author.Tests.{lt-ltb, le-ltb}
+use Rattle.spec.specs.Result.{Result, passed, refused, _then_, mostSymbols, grown, stage}
+use Rattle.spec.specs.Symbols.{find}
+use Rattle.spec.specs.Sweep.{Rule, sweep}
+use Rattle.spec.specs.Laws.Sweep.{Waits, sweep-absent}
+use Rattle.text.specs.Parts.{part, length-part, whole-part}
+use Rattle.text.specs.Search.{Finds, finds-nothing}
+use Rattle.text.specs.declared.Found.{Found}
+use Rattle.text.specs.declared.Found.the-variants.{Nothing}
+use Rattle.text.specs.Writer.{Regions}
+use Rattle.text.specs.Written.{Written, wrote-text, wrote-beyond}
+use Rattle.text.specs.declared.Refusal.{Refusal}
+use Rattle.text.specs.declared.Refusal.the-variants.{
+  ForeignByte,
+  LongFormula,
+  FaultyTable,
+  NarrowWork,
+  Overgrown,
+  LostBlock,
+  Unsettled,
+  BareDelimiter,
+  BarredSolidus,
+  ShortOutput,
+}
+use Rattle.text.specs.declared.Progress.{Progress}
+use Rattle.text.specs.declared.Progress.the-variants.{Text, Refused}
+
+abbrev pub number : Refusal → ℕ
+number ForeignByte = 1
+number LongFormula = 2
+number FaultyTable = 3
+number NarrowWork = 4
+number Overgrown = 5
+number LostBlock = 6
+number Unsettled = 7
+number BareDelimiter = 8
+number BarredSolidus = 9
+number ShortOutput = 10
+
+abbrev pub shown : Progress → List ℕ → Result (List ℕ)
+shown (Text at n) w = passed (part at n w)
+shown (Refused k) w = refused (number k)
+
+-- a text lies in the first or the second region
+abbrev pub Placed : Progress → Type 0
+Placed (Text at n) = ((at ≡ 0) ⊎ (at ≡ mostSymbols)) × (n ≤ mostSymbols)
+Placed (Refused k) = Unit {0}
+
+-- a finished text at `to`, judged by its length: number 5
+abbrev pub judged : ℕ → ℕ → Progress
+judged to count = cond (ltb mostSymbols count) (Refused Overgrown) (Text to count)
+
+pub record Ready (w : List ℕ) (p : Progress) : Type 0 where
+  pub long : 32768 ≤ length w
+  pub placed : Placed p
+
+pub record Answered (w w′ : List ℕ) (p p′ : Progress) (f : List ℕ → Result (List ℕ)) : Type 0 where
+  pub answer : shown p′ w′ ≡ (shown p w then f)
+  pub long : length w′ ≡ length w
+  pub placed : Placed p′
+
+pub record Staged (w w′ : List ℕ) (p p′ : Progress) (f : List ℕ → Result (List ℕ)) : Type 0 where
+  pub answered : Answered w w′ p p′ f
+  pub beyond : drop 16384 w′ ≡ drop 16384 w
+
+-- ---- one stage after another
+pub answered-ready : {w w′ : List ℕ} {p p′ : Progress} {f : List ℕ → Result (List ℕ)} → Ready w p → Answered w w′ p p′ f → Ready w′ p′
+answered-ready ready a = let l = a .long in let r = ready .long in record { long = omega arith; placed = a .placed }
+
+pub answered-then :
+    {w w′ w″ : List ℕ} {p p′ p″ : Progress} {f g : List ℕ → Result (List ℕ)}
+    → Answered w w′ p p′ f
+    → Answered w′ w″ p′ p″ g
+    → Answered w w″ p p″ (λ s. f s then g)
+answered-then {w} {p = p} {f = f} {g} a b =
+    record {
+      answer = b .answer ∙ ap (λ r. r then g) (a .answer) ∙ joined (shown p w);
+      long = b .long ∙ a .long;
+      placed = b .placed;
+    }
+  where
+    joined : (r : Result (List ℕ)) → (r then f then g) ≡ (r then (λ s. f s then g))
+    joined (passed s) = refl
+    joined (refused k) = refl
+
+pub staged-then :
+    {w w′ w″ : List ℕ} {p p′ p″ : Progress} {f g : List ℕ → Result (List ℕ)}
+    → Staged w w′ p p′ f
+    → Staged w′ w″ p′ p″ g
+    → Staged w w″ p p″ (λ s. f s then g)
+staged-then a b = record { answered = answered-then (a .answered) (b .answered); beyond = b .beyond ∙ a .beyond }
+
+-- the same stage by another definition
+pub staged-by :
+    {w w′ : List ℕ} {p p′ : Progress} {f : List ℕ → List ℕ} (g : List ℕ → List ℕ) → ((s : List ℕ) → f s ≡ g s)
+    → Staged w w′ p p′ (stage f)
+    → Staged w w′ p p′ (stage g)
+staged-by {w} {p = p} {f = f} g same a =
+    record {
+      answered = record { answer = a .answered .answer ∙ go (shown p w); long = a .answered .long; placed = a .answered .placed };
+      beyond = a .beyond;
+    }
+  where
+    go : (r : Result (List ℕ)) → (r then stage f) ≡ (r then stage g)
+    go (passed s) = ap (λ t. grown t t) (same s)
+    go (refused k) = refl
+
+-- ---- a stage that leaves buffer and progress as they are
+-- because the text has been refused before
+pub staged-refused : {w : List ℕ} {p : Progress} (f : List ℕ → Result (List ℕ)) (k : Refusal) → p ≡ Refused k → Staged w w p p f
+staged-refused {w} {p} f k e =
+    record {
+      answered = record { answer = ap (λ q. shown q w) e ∙ ap (λ q. shown q w then f) (sym e); long = refl; placed = subst Placed (sym e) tt };
+      beyond = refl;
+    }
+
+-- because its definition does
+pub grown-short : (s : List ℕ) → length s ≤ mostSymbols → grown s s ≡ passed s
+grown-short s h = rw (le-ltb mostSymbols (length s) h)
+
+module _ {w : List ℕ} {p : Progress} {from n : ℕ} (ready : Ready w p) (e : p ≡ Text from n) where
+  pub placed-text : ((from ≡ 0) ⊎ (from ≡ mostSymbols)) × (n ≤ mostSymbols)
+  placed-text = subst Placed e (ready .placed)
+
+  pub placed-fits : from + n ≤ 16384
+  placed-fits = let p = placed-text in let n = p .1 in ⊎-elim (λ z. omega arith) (λ z. omega arith) (p .0)
+
+  pub placed-low : from ≤ mostSymbols
+  placed-low = ⊎-elim (λ z. omega arith) (λ z. omega arith) (placed-text .0)
+
+  pub staged-same : (f : List ℕ → List ℕ) → f (part from n w) ≡ part from n w → Staged w w p (Text from n) (stage f)
+  staged-same f same =
+      let long = ready .long in let fits = placed-fits in let short = placed-text .1 in
+      let l = length-part from n w (omega arith) in
+      record {
+        answered = record {
+          answer = sym (ap (λ q. shown q w then stage f) e ∙ ap (λ t. grown t t) same ∙ grown-short (part from n w) (omega arith));
+          long = refl;
+          placed = placed-text;
+        };
+        beyond = refl;
+      }
+
+  -- the same stage by another definition, which agrees at this text
+  pub staged-at :
+      {w′ : List ℕ} {p′ : Progress} {f : List ℕ → Result (List ℕ)} (g : List ℕ → Result (List ℕ)) → f (part from n w) ≡ g (part from n w)
+      → Staged w w′ p p′ f
+      → Staged w w′ p p′ g
+  staged-at {f = f} g same a =
+      record {
+        answered = record {
+          answer = a .answered .answer ∙ ap (λ q. shown q w then f) e ∙ same ∙ sym (ap (λ q. shown q w then g) e);
+          long = a .answered .long;
+          placed = a .answered .placed;
+        };
+        beyond = a .beyond;
+      }
+
+  -- a refusal, where the buffer has been written to in the other region only
+  pub staged-refusal :
+      {w′ : List ℕ} {count : ℕ} {t : List ℕ} (g : List ℕ → Result (List ℕ)) (k : Refusal) → Written w w′ (8192 - from) 8192 count t
+      → g (part from n w) ≡ refused (number k)
+      → Staged w w′ p (Refused k) g
+  staged-refusal g k written refuses =
+      record {
+        answered = record { answer = sym (ap (λ q. shown q w then g) e ∙ refuses); long = written .wrote .long; placed = tt };
+        beyond = wrote-beyond {k = 16384} (written .wrote) (⊎-elim (λ z. omega arith) (λ z. omega arith) (placed-text .0));
+      }
+
+  -- because its rule waits for a pattern that is nowhere in the text
+  pub staged-absent :
+      (f : List ℕ → List ℕ) {pattern : List ℕ} {rule : Rule} {r : Found} → Waits pattern rule → ((s : List ℕ) → f s ≡ sweep rule 0 0 s)
+      → Finds (part from (from + n - from) w) r (find pattern (part from (from + n - from) w)) → r ≡ Nothing
+      → Staged w w p (Text from n) (stage f)
+  staged-absent f {pattern} waits sweeps finds nothing =
+      let absent = ap (find pattern) (sym (whole-part from n w)) ∙ finds-nothing finds nothing in
+      staged-same f (sweeps (part from n w) ∙ sweep-absent waits (part from n w) 0 absent)
+
+  -- ---- a stage that writes its text to the other region
+  pub placed-regions : Regions w from n (8192 - from) 8192 0
+  placed-regions =
+      let long = ready .long in let short = placed-text .1 in
+      ⊎-elim (λ z. record { source = omega arith; region = omega arith; apart = inl (omega arith); short = omega arith; small = omega arith })
+      (λ z. record { source = omega arith; region = omega arith; apart = inr (omega arith); short = omega arith; small = omega arith })
+      (placed-text .0)
+
+  pub staged-written :
+      {w′ : List ℕ} {count : ℕ} {p′ : Progress} {t : List ℕ} (f : List ℕ → List ℕ)
+      → Written w w′ (8192 - from) 8192 count t → f (part from n w) ≡ t → p′ ≡ judged (8192 - from) count
+      → Staged w w′ p p′ (stage f)
+  staged-written {w′} {count} {p′} {t} f written same j =
+      record {
+        answered = record {
+          answer = ap (λ q. shown q w′) j ∙ judged-shown (decLt mostSymbols count) ∙ sym (ap (λ q. shown q w then stage f) e ∙ ap (λ s. grown s s) same);
+          long = written .wrote .long;
+          placed = subst Placed (sym j) (judged-placed (decLt mostSymbols count));
+        };
+        beyond = wrote-beyond {k = 16384} (written .wrote) (let r = placed-regions .region in ⊎-elim (λ z. omega arith) (λ z. omega arith) (placed-text .0));
+      }
+    where
+      fits : 8192 - from + 8192 ≤ length w
+      fits = placed-regions .region
+
+      judged-shown : Dec (mostSymbols < count) → shown (judged (8192 - from) count) w′ ≡ grown t t
+      judged-shown (yes h) =
+          let c = written .counted in
+          rw (lt-ltb mostSymbols count h, lt-ltb mostSymbols (length t) (omega arith))
+      judged-shown (no h) =
+          let c = written .counted in let l : count ≤ mostSymbols = omega arith in
+          rw (le-ltb mostSymbols count l, le-ltb mostSymbols (length t) (omega arith))
+          (ap passed (ap (λ m. part (8192 - from) m w′) c ∙ wrote-text (written .wrote) fits (omega arith)))
+
+      judged-placed : Dec (mostSymbols < count) → Placed (judged (8192 - from) count)
+      judged-placed (yes h) = rw (lt-ltb mostSymbols count h) tt
+      judged-placed (no h) =
+          let l : count ≤ mostSymbols = omega arith in
+          rw (le-ltb mostSymbols count l) (⊎-elim (λ z. inr (omega arith)) (λ z. inl (omega arith)) (placed-text .0), l)

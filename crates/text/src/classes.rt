@@ -1,0 +1,48 @@
+// Classes of symbols. Each is one expression with no branch.
+ghost use mathlib.Core.Path.{_≡_};
+ghost use Rattle.spec.specs.Symbols.{between, blank, letter, digit, alnum, wordly, foreign};
+
+fn is_between(low: u8, high: u8, b: u8) -> bool
+    ensures { λ r. ⌜ r ≡ between low high b ⌝ }
+{
+    (low <= b) & (b <= high)
+}
+
+// Whitespace: space, tab, newline.
+pub fn is_blank(b: u8) -> bool
+    ensures { λ r. ⌜ r ≡ blank b ⌝ }
+{
+    (b == b' ') | ((b == b'\t') | (b == b'\n'))
+}
+
+pub fn is_letter(b: u8) -> bool
+    ensures { λ r. ⌜ r ≡ letter b ⌝ }
+{
+    is_between(b'a', b'z', b) | is_between(b'A', b'Z', b)
+}
+
+pub fn is_digit(b: u8) -> bool
+    ensures { λ r. ⌜ r ≡ digit b ⌝ }
+{
+    is_between(b'0', b'9', b)
+}
+
+pub fn is_alnum(b: u8) -> bool
+    ensures { λ r. ⌜ r ≡ alnum b ⌝ }
+{
+    is_letter(b) | is_digit(b)
+}
+
+// A word character: a letter, a digit or `_`.
+pub fn is_word(b: u8) -> bool
+    ensures { λ r. ⌜ r ≡ wordly b ⌝ }
+{
+    is_alnum(b) | (b == b'_')
+}
+
+// Number 1: a byte that no formula has.
+pub fn is_foreign(b: u8) -> bool
+    ensures { λ r. ⌜ r ≡ foreign b ⌝ }
+{
+    !(is_between(b' ', b'~', b) | ((b == b'\t') | (b == b'\n')))
+}

@@ -1,0 +1,81 @@
+// Texts in a lent buffer, and what all stages share: how far a formula has come, the refusals, the limits of document 01.
+//
+// A stage reads a text in one region of the work buffer and writes its own to the other.
+mod classes;
+mod search;
+mod spans;
+mod writer;
+
+pub use classes::is_alnum;
+pub use classes::is_blank;
+pub use classes::is_digit;
+pub use classes::is_foreign;
+pub use classes::is_letter;
+pub use classes::is_word;
+pub use search::before;
+pub use search::contains;
+pub use search::find;
+pub use search::starts_with;
+pub use search::symbol;
+pub use spans::is_in;
+pub use spans::skip;
+pub use spans::skip_end;
+pub use spans::trim;
+pub use writer::clear;
+pub use writer::copy;
+pub use writer::pop;
+pub use writer::put;
+pub use writer::put_all;
+ghost use mathlib.Core.Path.{_≡_};
+ghost use Rattle.text.specs.Stage.{judged};
+
+// The most symbols of a stage's finished text, and so the room of each of the two regions that texts lie in.
+pub const CAP: usize = 8_192;
+
+// Why a call is refused, by the trade's words.
+pub enum Refusal {
+    ForeignByte,
+    LongFormula,
+    FaultyTable,
+    NarrowWork,
+    Overgrown,
+    LostBlock,
+    Unsettled,
+    BareDelimiter,
+    BarredSolidus,
+    ShortOutput,
+}
+
+// A text's place and length in the work buffer, or its refusal.
+pub enum Progress {
+    Text(usize, usize),
+    Refused(Refusal),
+}
+
+// What a search answers.
+pub enum Found {
+    At(usize),
+    Nothing,
+}
+
+// The symbols from `start` up to `end`.
+pub struct Span {
+    pub start: usize,
+    pub end: usize,
+}
+
+// Symbols that are trimmed away: the blank ones, or one alone.
+pub enum Class {
+    Blank,
+    Only(u8),
+}
+
+// The finished text of `count` symbols at `to`, or number 5.
+pub fn finished(to: usize, count: usize) -> Progress
+    ensures { λ r. ⌜ r ≡ judged to count ⌝ }
+{
+    if CAP < count {
+        return Progress::Refused(Refusal::Overgrown);
+    }
+    Progress::Text(to, count)
+}

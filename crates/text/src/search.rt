@@ -1,0 +1,66 @@
+// Searches that hold nothing: how a text begins, where a pattern stands, what lies at a place.
+use super::Found;
+ghost use mathlib.Core.Path.{_≡_};
+ghost use mathlib.Core.List.{_∷_};
+ghost use lib.ListN.{getD};
+ghost use Rattle.spec.specs.Symbols.{starts, find as found, contains as occurs};
+ghost use Rattle.text.specs.Search.{Finds};
+
+// Whether the text begins with the pattern.
+pub fn starts_with(s: &[u8], pattern: &[u8]) -> bool
+    ensures { λ r. ⌜ r ≡ starts (now (pattern .entry)) (now (s .entry)) ⌝ }
+{
+    if s.len() < pattern.len() {
+        return false;
+    }
+    for i in 0..pattern.len() {
+        if s[i] != pattern[i] {
+            return false;
+        }
+    }
+    true
+}
+
+// The offset of the pattern's first occurrence.
+pub fn find(s: &[u8], pattern: &[u8]) -> Found
+    ensures { λ r. ⌜ Finds (now (s .entry)) r (found (now (pattern .entry)) (now (s .entry))) ⌝ }
+{
+    let mut i = 0;
+    while i < s.len() {
+        if starts_with(&s[i..], pattern) {
+            return Found::At(i);
+        }
+        i += 1;
+    }
+    Found::Nothing
+}
+
+// Whether the pattern occurs.
+pub fn contains(s: &[u8], pattern: &[u8]) -> bool
+    ensures { λ r. ⌜ r ≡ occurs (now (pattern .entry)) (now (s .entry)) ⌝ }
+{
+    let Found::At(_) = find(s, pattern) else {
+        return false;
+    };
+    true
+}
+
+// The symbol at a place, or 0 past the end.
+pub fn symbol(s: &[u8], i: usize) -> u8
+    ensures { λ r. ⌜ r ≡ getD (now (s .entry)) i 0 ⌝ }
+{
+    if i < s.len() {
+        return s[i];
+    }
+    0
+}
+
+// The symbol before a place, or 0 at the start.
+pub fn before(s: &[u8], i: usize) -> u8
+    ensures { λ r. ⌜ r ≡ getD (0 ∷ now (s .entry)) i 0 ⌝ }
+{
+    if i == 0 {
+        return 0;
+    }
+    symbol(s, i - 1)
+}
