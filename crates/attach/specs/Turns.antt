@@ -1,0 +1,240 @@
+-- The turns of `attach` between the halves of the buffer. Assumes nothing.
+--     Halved        a text in a half of the buffer, or where a stage finds it: no heavier than the half is long
+--     undersetAt    one rewriting, as the code writes it
+--     Turned        what `attach_once` ensures
+--     Turning       the loop: k turns have been made. Rewritten: all have
+--     Settled       what `settle` ensures: the text, judged by its length
+use mathlib.Core.Path.{_≡_, refl, sym, ap, ap₂, _∙_, subst}
+use mathlib.Core.Bool.{cond}
+use mathlib.Core.List.{List, _++_}
+use mathlib.Core.Logic.{_⊎_, inl, inr, ⊎-elim}
+use mathlib.Core.Option.{Option, none, some}
+use Prim.Native.Nat.{ℕ, zero, suc, _+_, _-_, _≤_, _<_}
+use native.Mathlib.Decide.{decLt}
+use native.Mathlib.Omega.{arith}
+use lib.Dec.{ltb}
+use lib.ListN.{length, take, drop}
+use lib.Seq.{take-take}
+use borrow.Author.Tests.{lt-ltb, le-ltb}
+use Rattle.spec.specs.Result.{Result, passed, refused, _then_, mostSymbols, grown, stage}
+use Rattle.spec.specs.Calls.{latexUnderset, attachOnce, attachTimes, convertAttach}
+use Rattle.text.specs.Parts.{part, length-part, whole-part, sub-part, rest-part}
+use Rattle.text.specs.Trim.{spanned}
+use Rattle.text.specs.Writer.{Regions, Appended, appended-long}
+use Rattle.text.specs.Written.{appended-text}
+use Rattle.text.specs.Stage.{shown, Placed, judged, Ready, Answered, placed-text, placed-fits}
+use Rattle.text.specs.declared.Span.{Span}
+use Rattle.text.specs.declared.Progress.{Progress}
+use Rattle.text.specs.declared.Progress.the-variants.{Text}
+use Rattle.attach.specs.Weight.{weight, weight-long, weight-short}
+use Rattle.attach.specs.Once.{Arguments, Attached, underset}
+use Rattle.attach.specs.declared.Attachment.{Attachment}
+use Rattle.attach.specs.declared.Attachment.the-variants.{At, Nothing}
+use Rattle.attach.specs.declared.Turn.{Turn}
+use Rattle.attach.specs.declared.Turn.the-variants.{To, Done}
+use Rattle.attach.specs.declared.Place.{Place}
+
+-- ---- the halves of the buffer
+abbrev pub Half : ℕ → ℕ → Type 0
+Half at n = (((at ≡ 0) ⊎ (at ≡ mostSymbols)) × (at + n ≤ 16384)) ⊎ ((at ≡ 16384) × (n ≤ 16384))
+
+pub record Halved (w : List ℕ) (at n : ℕ) : Type 0 where
+  pub long : 32768 ≤ length w
+  pub place : Half at n
+  pub light : weight (part at n w) ≤ 16384
+
+-- the half that a text at this place does not lie in
+abbrev pub other : ℕ → ℕ
+other at = cond (ltb at 16384) 16384 0
+
+other-low : (at : ℕ) → at < 16384 → other at ≡ 16384
+other-low at h = rw (lt-ltb at 16384 h)
+
+other-high : (at : ℕ) → 16384 ≤ at → other at ≡ 0
+other-high at h = rw (le-ltb at 16384 h)
+
+pub halved-regions : {w : List ℕ} {at n : ℕ} → Halved w at n → Regions w at n (other at) 16384 0
+halved-regions {w} {at} {n} half = ⊎-elim (λ p. low (p .1) (⊎-elim (λ z. omega arith) (λ z. omega arith) (p .0))) (λ p. high (p .0) (p .1)) (half .place)
+  where
+    low : at + n ≤ 16384 → at < 16384 → Regions w at n (other at) 16384 0
+    low fits h =
+        let l = half .long in let o = other-low at h in
+        record { source = omega arith; region = omega arith; apart = inl (omega arith); short = omega arith; small = omega arith }
+
+    high : at ≡ 16384 → n ≤ 16384 → Regions w at n (other at) 16384 0
+    high here fits =
+        let l = half .long in let o = other-high at (omega arith) in
+        record { source = omega arith; region = omega arith; apart = inr (omega arith); short = omega arith; small = omega arith }
+
+other-place : (at n : ℕ) → n ≤ 16384 → Half (other at) n
+other-place at n h = go (decLt at 16384)
+  where
+    go : Dec (at < 16384) → Half (other at) n
+    go (yes l) = inr (other-low at l, h)
+    go (no l) = let o = other-high at (omega arith) in inl (inl o, omega arith)
+
+-- a stage's text lies in the lower half
+pub ready-halved : {w : List ℕ} {p : Progress} {from n : ℕ} → Ready w p → p ≡ Text from n → Halved w from n
+ready-halved {w} {p} {from} {n} ready e =
+    let long = ready .long in let placed = placed-text ready e in let short = placed .1 in let fits = placed-fits ready e in
+    let l = length-part from n w (omega arith) in
+    let light = weight-short (part from n w) in
+    record { long = long; place = inl (placed .0, fits); light = omega arith }
+
+-- ---- one turn
+abbrev pub undersetAt : List ℕ → ℕ → ℕ → ℕ → ℕ → Span → Span → List ℕ
+undersetAt w from n i k base below =
+    part from i w
+    ++ latexUnderset (part (from + below .start) (below .end - below .start) w) (part (from + base .start) (base .end - base .start) w)
+    ++ part (from + (i + 7 + k + 1)) (from + n - (from + (i + 7 + k + 1))) w
+
+underset-parts :
+    (w : List ℕ) (from n : ℕ) {i k : ℕ} {base below : Span} → Arguments i k base below → i + 7 + k + 1 ≤ n
+    → underset (part from n w) i k (spanned below (part from n w)) (spanned base (part from n w)) ≡ undersetAt w from n i k base below
+underset-parts w from n {i} {k} {base} {below} args within =
+    let s = part from n w in
+    let f = args .first in let bo = args .base-order in let bt = args .between in let lo = args .below-order in let la = args .last in
+    ap₂ (λ x y. x ++ y ++ drop (i + 7 + k + 1) s)
+    (take-take i n (drop from w) (omega arith))
+    (ap₂ latexUnderset (sym (sub-part from n (below .start) (below .end - below .start) w (omega arith))) (sym (sub-part from n (base .start) (base .end - base .start) w (omega arith))))
+    ∙ ap (λ x. part from i w ++ latexUnderset (part (from + below .start) (below .end - below .start) w) (part (from + base .start) (base .end - base .start) w) ++ x)
+    (sym (rest-part from n (i + 7 + k + 1) w))
+
+abbrev pub Left : List ℕ → List ℕ → ℕ → ℕ → Turn → Type 0
+Left w w′ at n (To to m) = Halved w′ to m × (attachOnce (part at n w) ≡ some (part to m w′))
+Left w w′ at n Done = (w′ ≡ w) × (attachOnce (part at n w) ≡ none)
+
+pub record Turned (w w′ : List ℕ) (at n : ℕ) (r : Turn) : Type 0 where
+  pub long : length w′ ≡ length w
+  pub left : Left w w′ at n r
+
+-- as `attach_at` has found it in the text
+module _ {w : List ℕ} {at n : ℕ} (half : Halved w at n) {r : Attachment} (found : Attached (part at (at + n - at) w) r) where
+  here : {q : Attachment} → r ≡ q → Attached (part at n w) q
+  here {q} e = subst (λ s. Attached s q) (whole-part at n w) (subst (Attached (part at (at + n - at) w)) e found)
+
+  pub turned-not : r ≡ Nothing → Turned w w at n Done
+  turned-not e = record { long = refl; left = (refl, sym (here e .text)) }
+
+  module _ {i k : ℕ} {base below : Span} (e : r ≡ At i k base below) where
+    pub arguments-here : Arguments i k base below × (i + 7 + k + 1 ≤ n)
+    arguments-here =
+        let l = length-part at n w (halved-regions half .source) in
+        let fits = here e .fits in let f = fits .1 in
+        (fits .0, omega arith)
+
+    pub turned-to : {w′ : List ℕ} {count : ℕ} → Appended w w′ (other at) 16384 0 count (undersetAt w at n i k base below) → Turned w w′ at n (To (other at) count)
+    turned-to {w′} {count} a =
+        let s = part at n w in
+        let t = underset s i k (spanned below s) (spanned base s) in
+        let same : t ≡ undersetAt w at n i k base below = underset-parts w at n (arguments-here .0) (arguments-here .1) in
+        let light : weight t ≤ weight s = here e .fits .2 in
+        let before = half .light in let short = weight-long t in let counted = a .counted in let c = ap length same in
+        let l = appended-long a in let before-long = half .long in
+        let text : part (other at) count w′ ≡ t = appended-text a (halved-regions half .region) (omega arith) ∙ sym same in
+        let weighs = ap weight text in
+        record {
+          long = l;
+          left = (record { long = omega arith; place = other-place at count (omega arith); light = omega arith }, sym (here e .text) ∙ ap some (sym text));
+        }
+
+-- ---- the turns
+pub record Turning (w₀ w : List ℕ) (from n at m k : ℕ) : Type 0 where
+  pub long : length w ≡ length w₀
+  pub half : Halved w at m
+  pub left : attachTimes (n - k) (part at m w) ≡ attachTimes n (part from n w₀)
+
+pub record Rewritten (w₀ w : List ℕ) (from n : ℕ) (r : Place) : Type 0 where
+  pub long : length w ≡ length w₀
+  pub half : Halved w (r .at) (r .n)
+  pub text : part (r .at) (r .n) w ≡ convertAttach (part from n w₀)
+
+pub turning-none : {w : List ℕ} {from n : ℕ} → Halved w from n → Turning w w from n from n 0
+turning-none {w} {from} {n} half = let z : n - 0 ≡ n = omega arith in record { long = refl; half = half; left = ap (λ j. attachTimes j (part from n w)) z }
+
+times-some : (j : ℕ) (s : List ℕ) {t : List ℕ} → attachOnce s ≡ some t → attachTimes (suc j) s ≡ attachTimes j t
+unfolding attachTimes
+times-some j s e = let f : Option (List ℕ) → List ℕ = λ o. elim o [ none ↦ s | some t ↦ attachTimes j t ] in ap f e
+
+times-none : (j : ℕ) (s : List ℕ) → attachOnce s ≡ none → attachTimes j s ≡ s
+unfolding attachTimes
+times-none zero s e = refl
+times-none (suc j) s e = let f : Option (List ℕ) → List ℕ = λ o. elim o [ none ↦ s | some t ↦ attachTimes j t ] in ap f e
+
+all-times : {w₀ : List ℕ} {from n : ℕ} → Halved w₀ from n → attachTimes n (part from n w₀) ≡ convertAttach (part from n w₀)
+unfolding convertAttach
+all-times {w₀} {from} {n} half = ap (λ j. attachTimes j (part from n w₀)) (sym (length-part from n w₀ (halved-regions half .source)))
+
+module _ {w₀ w : List ℕ} {from n at m k : ℕ} (turning : Turning w₀ w from n at m k) where
+  pub turning-more : {w′ : List ℕ} {r : Turn} {to count : ℕ} → k < n → Turned w w′ at m r → r ≡ To to count → Turning w₀ w′ from n to count (k + 1)
+  turning-more {w′} more turn e =
+      let turned = subst (Turned w w′ at m) e turn in
+      let less : suc (n - (k + 1)) ≡ n - k = omega arith in
+      record {
+        long = turned .long ∙ turning .long;
+        half = turned .left .0;
+        left = sym (times-some (n - (k + 1)) (part at m w) (turned .left .1)) ∙ ap (λ j. attachTimes j (part at m w)) less ∙ turning .left;
+      }
+
+  pub turning-done : {w′ : List ℕ} {r : Turn} → Halved w₀ from n → Turned w w′ at m r → r ≡ Done → Rewritten w₀ w′ from n (record { at = at; n = m })
+  turning-done {w′} half turn e =
+      let turned = subst (Turned w w′ at m) e turn in
+      let same = turned .left .0 in
+      record {
+        long = turned .long ∙ turning .long;
+        half = subst (λ v. Halved v at m) (sym same) (turning .half);
+        text = ap (part at m) same ∙ sym (times-none (n - k) (part at m w) (turned .left .1)) ∙ turning .left ∙ all-times half;
+      }
+
+  pub turning-all : Halved w₀ from n → n ≤ k → Rewritten w₀ w from n (record { at = at; n = m })
+  unfolding attachTimes
+  turning-all half end =
+      let z : n - k ≡ 0 = omega arith in
+      record {
+        long = turning .long;
+        half = turning .half;
+        text = sym (ap (λ j. attachTimes j (part at m w)) z) ∙ turning .left ∙ all-times half;
+      }
+
+-- ---- the finished text
+pub record Settled (w w′ : List ℕ) (place : Place) (r : Progress) : Type 0 where
+  pub long : length w′ ≡ length w
+  pub answer : shown r w′ ≡ grown (part (place .at) (place .n) w) (part (place .at) (place .n) w)
+  pub placed : Placed r
+
+module _ (w w′ : List ℕ) (place : Place) (to count : ℕ) (counted : count ≡ length (part (place .at) (place .n) w)) (region : (to ≡ 0) ⊎ (to ≡ mostSymbols)) (held : count ≤ mostSymbols → part to count w′ ≡ part (place .at) (place .n) w) where
+  judged-answer : Dec (mostSymbols < count) → (shown (judged to count) w′ ≡ grown (part (place .at) (place .n) w) (part (place .at) (place .n) w)) × Placed (judged to count)
+  judged-answer (yes h) =
+      let t = part (place .at) (place .n) w in
+      (rw (lt-ltb mostSymbols count h, lt-ltb mostSymbols (length t) (omega arith)), rw (lt-ltb mostSymbols count h) tt)
+  judged-answer (no h) =
+      let t = part (place .at) (place .n) w in
+      let l : count ≤ mostSymbols = omega arith in
+      (rw (le-ltb mostSymbols count l, le-ltb mostSymbols (length t) (omega arith)) (ap passed (held l)), rw (le-ltb mostSymbols count l) (region, l))
+
+  settled : {r : Progress} → length w′ ≡ length w → r ≡ judged to count → Settled w w′ place r
+  settled long e =
+      let j = judged-answer (decLt mostSymbols count) in
+      record { long = long; answer = ap (λ q. shown q w′) e ∙ j .0; placed = subst Placed (sym e) (j .1) }
+
+module _ {w : List ℕ} {place : Place} (half : Halved w (place .at) (place .n)) where
+  pub settled-low : {r : Progress} → place .at < 16384 → r ≡ judged (place .at) (place .n) → Settled w w place r
+  settled-low h e =
+      settled w w place (place .at) (place .n) (sym (length-part (place .at) (place .n) w (halved-regions half .source)))
+      (⊎-elim (λ p. p .0) (λ p. (let z = p .0 in absurd (omega arith))) (half .place)) (λ l. refl) refl e
+
+  pub settled-high : {w′ : List ℕ} {count : ℕ} {r : Progress} → Appended w w′ 0 8192 0 count (part (place .at) (place .n) w) → r ≡ judged 0 count → Settled w w′ place r
+  settled-high {w′} {count} a e =
+      let long = half .long in
+      let counted = a .counted in
+      settled w w′ place 0 count (omega arith) (inl refl) (λ l. appended-text a (omega arith) l) (appended-long a) e
+
+pub attach-answered :
+    {w w′ w″ : List ℕ} {p r : Progress} {from n : ℕ} {place : Place} → p ≡ Text from n → Rewritten w w′ from n place → Settled w′ w″ place r
+    → Answered w w″ p r (stage convertAttach)
+attach-answered {w} e rewritten settled =
+    record {
+      answer = settled .answer ∙ ap (λ t. grown t t) (rewritten .text) ∙ sym (ap (λ q. shown q w then stage convertAttach) e);
+      long = settled .long ∙ rewritten .long;
+      placed = settled .placed;
+    }

@@ -1,0 +1,263 @@
+// `attach(base, b: bottom)` becomes `\underset{bottom}{base}`: the first call, again and again, until it can't be rewritten. The text
+// goes to and fro between the halves of the work buffer.
+use calls::Site;
+use text::Class;
+use text::Found;
+use text::Progress;
+use text::Span;
+ghost use mathlib.Core.Path.{_≡_};
+ghost use mathlib.Core.List.{_++_};
+ghost use Prim.Native.Nat.{_+_, _*_, _≤_};
+ghost use lib.ListN.{length};
+ghost use Rattle.spec.specs.Result.{stage};
+ghost use Rattle.spec.specs.Symbols.{bytes, find};
+ghost use Rattle.spec.specs.Calls.{bottomFrom, subscript, latexUnderset, convertAttach};
+ghost use Rattle.spec.specs.Sweep.{replace};
+ghost use Rattle.text.specs.Parts.{part};
+ghost use Rattle.text.specs.Writer.{Appended, Regions};
+ghost use Rattle.text.specs.Stage.{Ready, Answered};
+ghost use Rattle.text.specs.Trim.{Within, Narrowed, spanned};
+ghost use Rattle.attach.specs.Once.{Attached, Arguments};
+ghost use Rattle.attach.specs.Turns.{Halved, other, undersetAt, Turned, Rewritten, Settled};
+
+// The length of `attach(`.
+const OPEN: usize = 7;
+
+// Half of the work buffer: a text on the way is that long at the most.
+const HALF: usize = 16_384;
+
+// What stands in a span that begins behind `b:`, up to the next comma that is not escaped. With no comma, closing parentheses at
+// its end are cut.
+fn bottom_of(s: &[u8], span: Span) -> Span
+    requires { ⌜ Within (now s) span ⌝ }
+    ensures { λ r. ⌜ Narrowed (now (s .entry)) span r (bottomFrom (spanned span (now (s .entry)))) ⌝ }
+{
+    let start = span.start;
+    let end = span.end;
+    let Found::At(j) = closing::find_unescaped_comma(&s[start..end]) else {
+        return text::skip_end(s, span, Class::Only(b')'));
+    };
+    text::trim(
+        s,
+        Span {
+            start,
+            end: start + j,
+        },
+        Class::Blank,
+    )
+}
+
+// The subscript among the arguments behind the first comma: an empty span where there is no `b:`.
+fn subscript_of(s: &[u8], span: Span) -> Span
+    requires { ⌜ Within (now s) span ⌝ }
+    ensures { λ r. ⌜ Narrowed (now (s .entry)) span r (subscript (find (bytes "b:") (spanned span (now (s .entry))))) ⌝ }
+{
+    let start = span.start;
+    let end = span.end;
+    let Found::At(i) = text::find(&s[start..end], b"b:") else {
+        return Span { start: end, end };
+    };
+    let after = text::trim(
+        s,
+        Span {
+            start: start + i + 2,
+            end,
+        },
+        Class::Blank,
+    );
+    bottom_of(s, after)
+}
+
+// The call that is rewritten: where it begins, the length of what it holds, its base and its subscript.
+pub enum Attachment {
+    At(usize, usize, Span, Span),
+    Nothing,
+}
+
+// The first `attach(` of the text, if it can be rewritten.
+pub fn attach_at(s: &[u8]) -> Attachment
+    requires { ⌜ length (now s) ≤ 16384 ⌝ }
+    ensures { λ r. ⌜ Attached (now (s .entry)) r ⌝ }
+{
+    let Site::At(i, k) = calls::first_call(s, b"attach(") else {
+        return Attachment::Nothing;
+    };
+    let start = i + OPEN;
+    let end = start + k;
+    let Found::At(j) = closing::find_unescaped_comma(&s[start..end]) else {
+        return Attachment::Nothing;
+    };
+    let comma = start + j;
+    let base = text::trim(s, Span { start, end: comma }, Class::Blank);
+    let below = subscript_of(
+        s,
+        Span {
+            start: comma + 1,
+            end,
+        },
+    );
+    if below.start == below.end {
+        return Attachment::Nothing;
+    }
+    Attachment::At(i, k, base, below)
+}
+
+// Appends the `n` symbols at `from`, with `\;` for each `\,`.
+fn put_subscript(work: &mut [u8], to: usize, count: usize, from: usize, n: usize) -> usize
+    requires { ⌜ Regions (now work) from n to 16384 count ⌝ }
+    ensures { λ r. ⌜ Appended (now (work .entry)) (now (work .exit)) to 16384 count r (replace (bytes "\\,") (bytes "\\;") (part from n (now (work .entry)))) ⌝ }
+{
+    let end = from + n;
+    let mut written = count;
+    let mut i = 0;
+    while i < n {
+        let at = from + i;
+        if text::starts_with(&work[at..end], b"\\,") {
+            written = text::put_all(work, to, HALF, written, b"\\;");
+            i += 2;
+            continue;
+        }
+        let b = work[at];
+        written = text::put(work, to, HALF, written, b);
+        i += 1;
+    }
+    written
+}
+
+// Appends `\underset{`, the subscript of `n` symbols at `from`, and `}{`.
+fn put_below(work: &mut [u8], to: usize, count: usize, from: usize, n: usize) -> usize
+    requires { ⌜ Regions (now work) from n to 16384 (count + 16) ⌝ }
+    ensures { λ r. ⌜ Appended (now (work .entry)) (now (work .exit)) to 16384 count r (bytes "\\underset{" ++ replace (bytes "\\,") (bytes "\\;") (part from n (now (work .entry))) ++ bytes "}{") × (r ≤ count + 2 * n + 16) ⌝ }
+{
+    let opened = text::put_all(work, to, HALF, count, b"\\underset{");
+    let filled = put_subscript(work, to, opened, from, n);
+    text::put_all(work, to, HALF, filled, b"}{")
+}
+
+// Appends LaTeX's command for the subscript of `n` symbols at `from` and the base of `m` symbols at `base`.
+fn put_underset(
+    work: &mut [u8],
+    to: usize,
+    count: usize,
+    from: usize,
+    n: usize,
+    base: usize,
+    m: usize,
+) -> usize
+    requires { ⌜ Regions (now work) from n to 16384 (count + 16) ⌝ }
+    requires { ⌜ Regions (now work) base m to 16384 (count + 16) ⌝ }
+    ensures { λ r. ⌜ Appended (now (work .entry)) (now (work .exit)) to 16384 count r (latexUnderset (part from n (now (work .entry))) (part base m (now (work .entry)))) × (r ≤ count + 2 * n + m + 17) ⌝ }
+{
+    let below = put_below(work, to, count, from, n);
+    let filled = text::copy(work, base, m, to, HALF, below);
+    text::put_all(work, to, HALF, filled, b"}")
+}
+
+// Writes the `n` symbols at `from` to `to`, the call at `i`, which holds `k` symbols, rewritten.
+fn rewrite_attach(
+    work: &mut [u8],
+    from: usize,
+    n: usize,
+    to: usize,
+    i: usize,
+    k: usize,
+    base: Span,
+    below: Span,
+) -> usize
+    requires { ⌜ Regions (now work) from n to 16384 0 ⌝ }
+    requires { ⌜ Arguments i k base below × (i + 7 + k + 1 ≤ n) ⌝ }
+    ensures { λ r. ⌜ Appended (now (work .entry)) (now (work .exit)) to 16384 0 r (undersetAt (now (work .entry)) from n i k base below) ⌝ }
+{
+    let behind = from + (i + OPEN + k + 1);
+    let before = text::copy(work, from, i, to, HALF, 0);
+    let written = put_underset(
+        work,
+        to,
+        before,
+        from + below.start,
+        below.end - below.start,
+        from + base.start,
+        base.end - base.start,
+    );
+    text::copy(work, behind, from + n - behind, to, HALF, written)
+}
+
+// The half of the buffer that a text at this place does not lie in.
+fn other_half(at: usize) -> usize
+    ensures { λ r. ⌜ r ≡ other at ⌝ }
+{
+    if at < HALF {
+        return HALF;
+    }
+    0
+}
+
+// A turn: the place and the length of the text that it has written, or there was nothing to rewrite.
+pub enum Turn {
+    To(usize, usize),
+    Done,
+}
+
+// Rewrites the first call in the text of `n` symbols at `at`.
+fn attach_once(work: &mut [u8], at: usize, n: usize) -> Turn
+    requires { ⌜ Halved (now work) at n ⌝ }
+    ensures { λ r. ⌜ Turned (now (work .entry)) (now (work .exit)) at n r ⌝ }
+{
+    let end = at + n;
+    let Attachment::At(i, k, base, below) = attach_at(&work[at..end]) else {
+        return Turn::Done;
+    };
+    let to = other_half(at);
+    let count = rewrite_attach(work, at, n, to, i, k, base, below);
+    Turn::To(to, count)
+}
+
+// Where a text lies in the buffer, and its length.
+pub struct Place {
+    pub at: usize,
+    pub n: usize,
+}
+
+// Rewrites the text of `n` symbols at `from` in at most `n` turns.
+fn attach_all(work: &mut [u8], from: usize, n: usize) -> Place
+    requires { ⌜ Halved (now work) from n ⌝ }
+    ensures { λ r. ⌜ Rewritten (now (work .entry)) (now (work .exit)) from n r ⌝ }
+{
+    let mut at = from;
+    let mut m = n;
+    let mut k = 0;
+    while k < n {
+        let Turn::To(to, count) = attach_once(work, at, m) else {
+            return Place { at, n: m };
+        };
+        at = to;
+        m = count;
+        k += 1;
+    }
+    Place { at, n: m }
+}
+
+// Judges the finished text. From the upper half it is brought to the first region.
+fn settle(work: &mut [u8], place: Place) -> Progress
+    requires { ⌜ Halved (now work) (place .at) (place .n) ⌝ }
+    ensures { λ r. ⌜ Settled (now (work .entry)) (now (work .exit)) place r ⌝ }
+{
+    let at = place.at;
+    let n = place.n;
+    if at < HALF {
+        return text::finished(at, n);
+    }
+    let count = text::copy(work, at, n, 0, text::CAP, 0);
+    text::finished(0, count)
+}
+
+pub fn convert_attach(work: &mut [u8], text: Progress) -> Progress
+    requires { ⌜ Ready (now work) text ⌝ }
+    ensures { λ r. ⌜ Answered (now (work .entry)) (now (work .exit)) text r (stage convertAttach) ⌝ }
+{
+    let Progress::Text(from, n) = text else {
+        return text;
+    };
+    let place = attach_all(work, from, n);
+    settle(work, place)
+}

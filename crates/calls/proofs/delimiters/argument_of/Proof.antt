@@ -1,0 +1,26 @@
+-- `calls::delimiters::argument_of` meets its contract, by what `trim` ensures. Assumes nothing.
+use Rattle.spec.specs.Symbols.{trimQuotes}
+use native.Mathlib.Omega.{arith}
+use mathlib.Core.Path.{ap, _∙_}
+use borrow.Author.Needs.{needs}
+use Rattle.calls.proofs.delimiters.argument_of.Statement.{statement}
+use Rattle.calls.proofs.delimiters.argument_of.Tie as tie
+
+trim-requires : tie.Need-trim-requires
+trim-requires c κs = search needs
+
+trim-requires-2 : tie.Need-trim-requires-2
+trim-requires-2 c κs = search needs
+
+returns : tie.Need-returns
+returns c =
+    let a = c .before .trim .ensures in
+    let b = c .trim2 .ensures in
+    record { from = omega arith; order = b .order; to = omega arith; text = b .text ∙ ap trimQuotes (a .text) ∙ (rw (c .before .before .if1 .taken)) }
+
+returns-2 : tie.Need-returns-2
+returns-2 c =
+    record { from = omega arith; order = c .before .before .pre .order; to = omega arith; text = rw (c .if1 .left) }
+
+pub argument-of-spec : {M : Type 1} → statement M
+argument-of-spec = tie.close (tie.spec trim-requires trim-requires-2 returns returns-2)

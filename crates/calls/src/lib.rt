@@ -1,0 +1,130 @@
+// The call rewritings, `op` to the second `upright`, in the Rust's order. Each is a stage: it takes the text where it stands in the
+// work buffer and gives it back rewritten, in the other region, or as it was where it has nothing to rewrite.
+mod binom;
+mod delimiters;
+mod first;
+
+pub use binom::convert_binom;
+pub use delimiters::call_at;
+use delimiters::convert_calls;
+pub use delimiters::put_call;
+pub use first::first_call;
+use text::Progress;
+ghost use Rattle.spec.specs.Result.{stage};
+ghost use Rattle.spec.specs.Calls.{convertOp, convertBb, convertBold, convertUpright, convertFloor, convertCeil, convertAbs, convertCal, convertFrak, convertUprightAgain, convertFloorCeilAbs};
+ghost use Rattle.text.specs.Stage.{Ready, Staged};
+
+// A call in a text: where it begins, and the length of what stands inside.
+pub enum Site {
+    At(usize, usize),
+    Nothing,
+}
+
+// `op("name")` becomes `\operatorname{name}`.
+pub fn convert_op(work: &mut [u8], text: Progress) -> Progress
+    requires { ⌜ Ready (now work) text ⌝ }
+    ensures { λ r. ⌜ Staged (now (work .entry)) (now (work .exit)) text r (stage convertOp) ⌝ }
+{
+    convert_calls(work, text, b"op(", b"\\operatorname{", b"}", true)
+}
+
+// `bb(x)` becomes `\mathbb{x}`.
+pub fn convert_bb(work: &mut [u8], text: Progress) -> Progress
+    requires { ⌜ Ready (now work) text ⌝ }
+    ensures { λ r. ⌜ Staged (now (work .entry)) (now (work .exit)) text r (stage convertBb) ⌝ }
+{
+    convert_calls(work, text, b"bb(", b"\\mathbb{", b"}", false)
+}
+
+// `bold(x)` becomes `\mathbf{x}`.
+pub fn convert_bold(work: &mut [u8], text: Progress) -> Progress
+    requires { ⌜ Ready (now work) text ⌝ }
+    ensures { λ r. ⌜ Staged (now (work .entry)) (now (work .exit)) text r (stage convertBold) ⌝ }
+{
+    convert_calls(work, text, b"bold(", b"\\mathbf{", b"}", false)
+}
+
+// `upright("mean")` becomes `\mathrm{mean}`.
+pub fn convert_upright(work: &mut [u8], text: Progress) -> Progress
+    requires { ⌜ Ready (now work) text ⌝ }
+    ensures { λ r. ⌜ Staged (now (work .entry)) (now (work .exit)) text r (stage convertUpright) ⌝ }
+{
+    convert_calls(work, text, b"upright(", b"\\mathrm{", b"}", true)
+}
+
+fn convert_floor(work: &mut [u8], text: Progress) -> Progress
+    requires { ⌜ Ready (now work) text ⌝ }
+    ensures { λ r. ⌜ Staged (now (work .entry)) (now (work .exit)) text r (stage convertFloor) ⌝ }
+{
+    convert_calls(
+        work,
+        text,
+        b"floor(",
+        b"\\left\\lfloor ",
+        b" \\right\\rfloor",
+        false,
+    )
+}
+
+fn convert_ceil(work: &mut [u8], text: Progress) -> Progress
+    requires { ⌜ Ready (now work) text ⌝ }
+    ensures { λ r. ⌜ Staged (now (work .entry)) (now (work .exit)) text r (stage convertCeil) ⌝ }
+{
+    convert_calls(
+        work,
+        text,
+        b"ceil(",
+        b"\\left\\lceil ",
+        b" \\right\\rceil",
+        false,
+    )
+}
+
+fn convert_abs(work: &mut [u8], text: Progress) -> Progress
+    requires { ⌜ Ready (now work) text ⌝ }
+    ensures { λ r. ⌜ Staged (now (work .entry)) (now (work .exit)) text r (stage convertAbs) ⌝ }
+{
+    convert_calls(
+        work,
+        text,
+        b"abs(",
+        b"\\left\\lvert ",
+        b" \\right\\rvert",
+        false,
+    )
+}
+
+fn convert_cal(work: &mut [u8], text: Progress) -> Progress
+    requires { ⌜ Ready (now work) text ⌝ }
+    ensures { λ r. ⌜ Staged (now (work .entry)) (now (work .exit)) text r (stage convertCal) ⌝ }
+{
+    convert_calls(work, text, b"cal(", b"\\mathcal{", b"}", false)
+}
+
+fn convert_frak(work: &mut [u8], text: Progress) -> Progress
+    requires { ⌜ Ready (now work) text ⌝ }
+    ensures { λ r. ⌜ Staged (now (work .entry)) (now (work .exit)) text r (stage convertFrak) ⌝ }
+{
+    convert_calls(work, text, b"frak(", b"\\mathfrak{", b"}", false)
+}
+
+// The second `upright`, which neither trims nor strips quotes.
+fn convert_upright_again(work: &mut [u8], text: Progress) -> Progress
+    requires { ⌜ Ready (now work) text ⌝ }
+    ensures { λ r. ⌜ Staged (now (work .entry)) (now (work .exit)) text r (stage convertUprightAgain) ⌝ }
+{
+    convert_calls(work, text, b"upright(", b"\\mathrm{", b"}", false)
+}
+
+// `floor(x)`, `ceil(x)` and `abs(x)` become delimiters that take the height of what they enclose; then come the alphabets.
+pub fn convert_floor_ceil_abs(work: &mut [u8], text: Progress) -> Progress
+    requires { ⌜ Ready (now work) text ⌝ }
+    ensures { λ r. ⌜ Staged (now (work .entry)) (now (work .exit)) text r convertFloorCeilAbs ⌝ }
+{
+    let text = convert_floor(work, text);
+    let text = convert_ceil(work, text);
+    let text = convert_abs(work, text);
+    let text = convert_cal(work, text);
+    let text = convert_frak(work, text);
+    convert_upright_again(work, text)
+}

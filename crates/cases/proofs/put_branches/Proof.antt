@@ -1,0 +1,124 @@
+-- `cases::put_branches` meets its contract. The loop's invariant: the branches before `start` have been appended. Assumes nothing.
+use Rattle.cases.specs.Cases.{Branched, Branching, branching-none, branching-blank, branching-more, branching-all, branches-read, branch-read}
+use Rattle.text.specs.Writer.{apart-part, appended-long}
+use Rattle.text.specs.Parts.{part, length-part}
+use lib.ListN.{length, length-take, length-drop}
+use mathlib.Core.Path.{_≡_, refl, subst}
+use Prim.Native.Nat.{_+_, _-_, _≤_, _<_}
+use native.Mathlib.Omega.{arith}
+use Rattle.cases.proofs.put_branches.Statement.{statement}
+use Rattle.cases.proofs.put_branches.Tie as tie
+
+abbrev Inv-loop : tie.InvT-loop
+Inv-loop work₀ to count from n end written₀ later₀ start₀ work written later start = (start ≤ n + 1) × (length work ≡ length work₀) × Branching (part from n work₀) work₀ work to 8192 count written later start
+
+abbrev μ-loop : tie.MeasureT-loop
+μ-loop work₀ to count from n end written₀ later₀ start₀ work written later start = n + 1 - start
+
+add-end : tie.Need-add-end Inv-loop μ-loop
+add-end c = omega arith
+
+loop-holds : tie.Need-loop-holds Inv-loop μ-loop
+loop-holds c = (omega arith, refl, branching-none _ _ _ _ _)
+
+sub-branch-at : tie.Need-sub-branch-at Inv-loop μ-loop
+sub-branch-at c = omega arith
+
+part-branch-at-start : tie.Need-part-branch-at-start Inv-loop μ-loop
+part-branch-at-start c = omega arith
+
+part-branch-at-end : tie.Need-part-branch-at-end Inv-loop μ-loop
+part-branch-at-end c = omega arith
+
+branch-at-requires : tie.Need-branch-at-requires Inv-loop μ-loop
+branch-at-requires c κs = (simp (length-take, length-drop) (omega arith), simp (length-take, length-drop) (omega arith))
+
+-- the branch that begins at `start`
+branch :
+    (c : tie.After-branch-at Inv-loop μ-loop)
+    → (let l = c .before .before .before .before in let a = l .before .before .args in Branched (part (a .from) (a .n) (a .work .now)) (l .loop .start) (c .branch-at .result))
+branch c =
+    let l = c .before .before .before .before in
+    subst (λ s. Branched s (l .loop .start) (c .branch-at .result)) (branches-read (l .loop .inv .2 .appended) (l .before .before .pre .0)) (c .branch-at .ensures)
+
+long : (c : tie.After-branch-at Inv-loop μ-loop) → (let a = c .before .before .before .before .before .before .args in length (part (a .from) (a .n) (a .work .now)) ≡ a .n)
+long c = let s = c .before .before .before .before .before .before in length-part (s .args .from) (s .args .n) (s .args .work .now) (s .pre .0 .source)
+
+sub-k : tie.Need-sub-k Inv-loop μ-loop
+sub-k c = c .before .branch-at .ensures .order
+
+loop-less : tie.Need-loop-less Inv-loop μ-loop
+loop-less c = let b = branch (c .before .before) in let n = long (c .before .before) in omega arith
+
+loop-again : tie.Need-loop-again Inv-loop μ-loop
+loop-again c =
+    let b = branch (c .before .before) in
+    let n = long (c .before .before) in
+    let l = c .before .before .before .before .before .before in
+    (omega arith, l .loop .inv .1, branching-blank (l .loop .inv .2) b (c .if1 .taken))
+
+add-put-branch : tie.Need-add-put-branch Inv-loop μ-loop
+add-put-branch c = let b = branch (c .before .before .before .before) in let n = long (c .before .before .before .before) in omega arith
+
+put-branch-requires : tie.Need-put-branch-requires Inv-loop μ-loop
+put-branch-requires c κs =
+    let l = c .before .before .before .before .before .before .before .before in
+    let s = l .before .before in
+    let b = branch (c .before .before .before .before) in
+    let n = long (c .before .before .before .before) in
+    let slow = l .loop .inv .2 .slow in
+    let regions = s .pre .0 in
+    let r = c .before .before .before .before .branch-at .result in
+    (record { region = omega arith; small = omega arith }, (omega arith, apart-part (s .args .from) (s .args .n) (s .args .to) 8192 (r .start) (r .end - r .start) (regions .apart) (omega arith)))
+
+loop-less-2 : tie.Need-loop-less-2 Inv-loop μ-loop
+loop-less-2 c = let b = branch (c .before .before .before .before .before .before .before) in let n = long (c .before .before .before .before .before .before .before) in omega arith
+
+loop-again-2 : tie.Need-loop-again-2 Inv-loop μ-loop
+loop-again-2 c =
+    let l = c .before .before .before .before .before .before .before .before .before .before .before in
+    let s = l .before .before in
+    let b = branch (c .before .before .before .before .before .before .before) in
+    let n = long (c .before .before .before .before .before .before .before) in
+    let r = c .before .before .before .before .before .before .before .branch-at .result in
+    let k = c .before .before .before .before .before .if1 .left in
+    let some : 0 < r .end - r .start = omega arith in
+    let read = branch-read (l .loop .inv .2 .appended) (s .pre .0) (r .start) (r .end - r .start) (omega arith) in
+    let put = c .before .before .put-branch .ensures in (
+      omega arith,
+      omega (arith, appended-long put),
+      branching-more (l .loop .inv .2) b some (rw read at put),
+    )
+
+same-length : tie.Need-same-length Inv-loop μ-loop
+same-length c = c .before .loop .inv .1
+
+returns : tie.Need-returns Inv-loop μ-loop
+returns c =
+    let l = c .before in
+    let s = l .before .before in
+    let n = length-part (s .args .from) (s .args .n) (s .args .work .now) (s .pre .0 .source) in
+    let slow = l .loop .inv .2 .slow in
+    (branching-all (l .loop .inv .2) (omega arith), omega arith)
+
+pub put-branches-spec : {M : Type 1} → statement M
+put-branches-spec =
+    tie.close
+    (tie.spec
+    Inv-loop
+    μ-loop
+    add-end
+    loop-holds
+    sub-branch-at
+    part-branch-at-start
+    part-branch-at-end
+    branch-at-requires
+    sub-k
+    loop-less
+    loop-again
+    add-put-branch
+    put-branch-requires
+    loop-less-2
+    loop-again-2
+    same-length
+    returns)

@@ -1,0 +1,2 @@
+-- What the contracts of `quotes` cite.
+pub mod Quotes

@@ -1,0 +1,170 @@
+// Quoted text: `"..."` becomes `\text{...}`, with a thin space where a letter, digit, closing brace or another quote is its
+// neighbour. Blanks before such a neighbour are dropped, also those written already: what has been written is never read back, its
+// end is handed on by value.
+use text::Class;
+use text::Found;
+use text::Progress;
+use text::Span;
+ghost use mathlib.Core.Path.{_≡_};
+ghost use Prim.Native.Nat.{_≤_, _<_};
+ghost use lib.ListN.{length};
+ghost use Rattle.spec.specs.Result.{stage};
+ghost use Rattle.spec.specs.Quotes.{convertTextQuotes};
+ghost use Rattle.text.specs.Parts.{part};
+ghost use Rattle.text.specs.Writer.{Room, Appended, Regions};
+ghost use Rattle.text.specs.Written.{Written};
+ghost use Rattle.text.specs.Stage.{Ready, Staged};
+ghost use Rattle.quotes.specs.Quotes.{ending, grownBy, gapAt, kept, opening, closing, closingLast, ClosedAt};
+
+// The end of a text: its last symbol that is not blank (0: none), and the number of blanks behind it.
+pub struct Tail {
+    pub last: u8,
+    pub blanks: usize,
+}
+
+impl Tail {
+    // The end of a text whose last symbol is not blank, or of none.
+    pub fn new(last: u8) -> Tail
+        ensures { λ r. ⌜ r ≡ ending last ⌝ }
+    {
+        Tail { last, blanks: 0 }
+    }
+
+    // The end after one symbol more.
+    pub fn step(self, symbol: u8) -> Tail
+        requires { ⌜ self .blanks < 65536 ⌝ }
+        ensures { λ r. ⌜ r ≡ grownBy self symbol ⌝ }
+    {
+        if text::is_blank(symbol) {
+            return Tail {
+                last: self.last,
+                blanks: self.blanks + 1,
+            };
+        }
+        Tail::new(symbol)
+    }
+
+    // Whether an opening quote behind it gets a thin space.
+    pub fn gap(self) -> bool
+        ensures { λ r. ⌜ r ≡ gapAt self ⌝ }
+    {
+        let last = self.last;
+        text::is_alnum(last) | (last == b'}')
+    }
+}
+
+// What follows a closing quote: whether it gets a thin space, and the place where the text goes on.
+pub struct After {
+    pub gap: bool,
+    pub next: usize,
+}
+
+// The text goes on at `i`, or, where a thin space is written, behind the blanks there.
+fn after_quote(s: &[u8], i: usize) -> After
+    requires { ⌜ i ≤ length (now s) ⌝ }
+    ensures { λ r. ⌜ ClosedAt (now (s .entry)) i r ⌝ }
+{
+    let span = text::skip(
+        s,
+        Span {
+            start: i,
+            end: s.len(),
+        },
+        Class::Blank,
+    );
+    let next = span.start;
+    let symbol = text::symbol(s, next);
+    if text::is_alnum(symbol) | (symbol == b'"') {
+        return After { gap: true, next };
+    }
+    After {
+        gap: false,
+        next: i,
+    }
+}
+
+// Drops the blanks at the end where a thin space is written, and appends it and `\text{`.
+fn put_opening(work: &mut [u8], to: usize, count: usize, tail: Tail) -> usize
+    requires { ⌜ Room (now work) to 8192 count 8 ⌝ }
+    requires { ⌜ tail .blanks ≤ count ⌝ }
+    ensures { λ r. ⌜ Appended (now (work .entry)) (now (work .exit)) to 8192 (kept count tail) r (opening tail) ⌝ }
+{
+    if tail.gap() {
+        return text::put_all(work, to, text::CAP, count - tail.blanks, b"\\;\\text{");
+    }
+    text::put_all(work, to, text::CAP, count, b"\\text{")
+}
+
+// Appends `}` and perhaps a thin space.
+fn put_closing(work: &mut [u8], to: usize, count: usize, gap: bool) -> usize
+    requires { ⌜ Room (now work) to 8192 count 3 ⌝ }
+    ensures { λ r. ⌜ Appended (now (work .entry)) (now (work .exit)) to 8192 count r (closing gap) ⌝ }
+{
+    if gap {
+        return text::put_all(work, to, text::CAP, count, b"}\\;");
+    }
+    text::put_all(work, to, text::CAP, count, b"}")
+}
+
+// The last symbol that `put_closing` appends.
+fn closing_last(gap: bool) -> u8
+    ensures { λ r. ⌜ r ≡ closingLast gap ⌝ }
+{
+    if gap {
+        return b';';
+    }
+    b'}'
+}
+
+// Writes the `n` symbols at `from` to `to`, quoted text rewritten. The result is the finished text's length.
+fn rewrite_quotes(work: &mut [u8], from: usize, n: usize, to: usize) -> usize
+    requires { ⌜ Regions (now work) from n to 8192 0 × (n ≤ 8192) ⌝ }
+    ensures { λ r. ⌜ Written (now (work .entry)) (now (work .exit)) to 8192 r (convertTextQuotes (part from n (now (work .entry)))) ⌝ }
+{
+    let end = from + n;
+    let mut count = 0;
+    let mut quoted = false;
+    let mut tail = Tail::new(0);
+    let mut i = 0;
+    while i < n {
+        let b = work[from + i];
+        if b != b'"' {
+            count = text::put(work, to, text::CAP, count, b);
+            tail = tail.step(b);
+            i += 1;
+            continue;
+        }
+        if quoted {
+            let after = after_quote(&work[from..end], i + 1);
+            count = put_closing(work, to, count, after.gap);
+            tail = Tail::new(closing_last(after.gap));
+            quoted = false;
+            i = after.next;
+            continue;
+        }
+        count = put_opening(work, to, count, tail);
+        tail = Tail::new(b'{');
+        quoted = true;
+        i += 1;
+    }
+    if quoted {
+        return text::put(work, to, text::CAP, count, b'}');
+    }
+    count
+}
+
+pub fn convert_text_quotes(work: &mut [u8], text: Progress) -> Progress
+    requires { ⌜ Ready (now work) text ⌝ }
+    ensures { λ r. ⌜ Staged (now (work .entry)) (now (work .exit)) text r (stage convertTextQuotes) ⌝ }
+{
+    let Progress::Text(from, n) = text else {
+        return text;
+    };
+    let end = from + n;
+    let Found::At(_) = text::find(&work[from..end], b"\"") else {
+        return text;
+    };
+    let to = text::CAP - from;
+    let count = rewrite_quotes(work, from, n, to);
+    text::finished(to, count)
+}
