@@ -1,0 +1,101 @@
+-- `finish::braces::escape` meets its contract. The loop's invariant: what has been written and what is to be written from place i on are the whole.
+-- Assumes nothing.
+use Rattle.finish.specs.Braces.{braced, braced-first, braced-end, braced-more, braced-few}
+use Rattle.spec.specs.Finish.{escapeSetBraces}
+use Rattle.text.specs.Filling.{Filling, filling-none, filling-all}
+use Rattle.text.specs.Parts.{part, length-part}
+use Rattle.text.specs.Writer.{appended-long}
+use lib.ListN.{length, length-take, length-drop}
+use mathlib.Core.Path.{_≡_, refl, sym, subst}
+use Prim.Native.Nat.{_+_, _-_, _*_, _≤_}
+use native.Mathlib.Omega.{arith}
+use Rattle.finish.proofs.braces.escape.Statement.{statement}
+use Rattle.finish.proofs.braces.escape.Tie as tie
+
+abbrev Inv-loop : tie.InvT-loop
+Inv-loop work₀ from n to end count₀ i₀ work count i =
+    (end ≡ from + n) × (length work ≡ length work₀) × (i ≤ n) × (count ≤ 2 * i)
+    × Filling work₀ work to 8192 0 count (braced (part from n work₀) i) (escapeSetBraces (part from n work₀))
+
+abbrev μ-loop : tie.MeasureT-loop
+μ-loop work₀ from n to end count₀ i₀ work count i = n - i
+
+add-end : tie.Need-add-end Inv-loop μ-loop
+add-end c = omega arith
+
+loop-holds : tie.Need-loop-holds Inv-loop μ-loop
+loop-holds c =
+    let a = c .before .args in
+    let s = part (a .from) (a .n) (a .work .now) in
+    (refl, refl, omega arith, omega arith, subst (λ r. Filling (a .work .now) (a .work .now) (a .to) 8192 0 0 r (escapeSetBraces s)) (sym (braced-first s)) (filling-none _ _ _ _ _))
+
+sub-is-bare : tie.Need-sub-is-bare Inv-loop μ-loop
+sub-is-bare c = omega arith
+
+part-is-bare-start : tie.Need-part-is-bare-start Inv-loop μ-loop
+part-is-bare-start c = omega arith
+
+part-is-bare-end : tie.Need-part-is-bare-end Inv-loop μ-loop
+part-is-bare-end c = omega arith
+
+is-bare-requires : tie.Need-is-bare-requires Inv-loop μ-loop
+is-bare-requires c κs = simp (length-take, length-drop) (omega arith)
+
+add-b : tie.Need-add-b Inv-loop μ-loop
+add-b c = omega arith
+
+slice-read-b : tie.Need-slice-read-b Inv-loop μ-loop
+slice-read-b c = omega arith
+
+put-brace-requires : tie.Need-put-brace-requires Inv-loop μ-loop
+put-brace-requires c κs = let p = c .before .before .before .before .before .before .before .before .pre in record { region = omega arith; small = omega arith }
+
+add-i : tie.Need-add-i Inv-loop μ-loop
+add-i c = omega arith
+
+loop-less : tie.Need-loop-less Inv-loop μ-loop
+loop-less c = omega arith
+
+loop-again : tie.Need-loop-again Inv-loop μ-loop
+loop-again c =
+    let l = c .before .before .before .before .before .before .before .before .before in
+    let s = l .before .before in
+    let more = braced-few (s .pre) (l .loop .inv .4) (c .before .before .before .before .before .before .before .before .loop-test .taken) (c .before .before .before .before .before .is-bare .ensures) (c .before .before .put-brace .ensures) in (
+      refl,
+      omega (arith, appended-long (c .before .before .put-brace .ensures)),
+      omega arith,
+      omega arith,
+      braced-more (s .pre) (l .loop .inv .4) (c .before .before .before .before .before .before .before .before .loop-test .taken) (c .before .before .before .before .before .is-bare .ensures) (c .before .before .put-brace .ensures),
+    )
+
+same-length : tie.Need-same-length Inv-loop μ-loop
+same-length c = c .before .loop .inv .1
+
+returns : tie.Need-returns Inv-loop μ-loop
+returns c =
+    let l = c .before in
+    let a = l .before .before .args in
+    let p = l .before .before .pre in
+    let g = length-part (a .from) (a .n) (a .work .now) (p .source) in
+    filling-all (l .loop .inv .4) (braced-end (part (a .from) (a .n) (a .work .now)) (l .loop .i) (omega arith))
+
+pub escape-spec : {M : Type 1} → statement M
+escape-spec =
+    tie.close
+    (tie.spec
+    Inv-loop
+    μ-loop
+    add-end
+    loop-holds
+    sub-is-bare
+    part-is-bare-start
+    part-is-bare-end
+    is-bare-requires
+    add-b
+    slice-read-b
+    put-brace-requires
+    add-i
+    loop-less
+    loop-again
+    same-length
+    returns)

@@ -1,0 +1,47 @@
+-- `finish::braces::is_bare` meets its contract, by the symbol. Assumes nothing.
+use Rattle.finish.specs.Braces.{bare-opener, bare-closer, bare-other}
+use Rattle.spec.specs.Finish.{groupsBehind}
+use mathlib.Core.Path.{sym, ap, _∙_}
+use native.Mathlib.Omega.{arith}
+use borrow.Author.Needs.{needs}
+use Rattle.finish.proofs.braces.is_bare.Statement.{statement}
+use Rattle.finish.proofs.braces.is_bare.Tie as tie
+
+shared-slice-read-b : tie.Need-shared-slice-read-b
+shared-slice-read-b c = omega arith
+
+before-requires : tie.Need-before-requires
+before-requires c κs = search needs
+
+is-grouping-requires : tie.Need-is-grouping-requires
+is-grouping-requires c κs = search needs
+
+returns : tie.Need-returns
+returns c =
+    let a = c .before .before .before .before .before .args in
+    c .is-grouping .ensures ∙ ap groupsBehind (c .before .before2 .ensures) ∙ sym (bare-opener (a .s .now) (a .i) (omega arith) (c .before .before .if1 .taken))
+
+open-groups-requires : tie.Need-open-groups-requires
+open-groups-requires c κs = search needs
+
+returns-2 : tie.Need-returns-2
+returns-2 c =
+    let a = c .before .before .before .before .before .args in
+    c .open-groups .ensures ∙ sym (bare-closer (a .s .now) (a .i) (omega arith) (c .before .if2 .taken))
+
+returns-3 : tie.Need-returns-3
+returns-3 c =
+    let a = c .before .before .before .before .args in
+    sym (bare-other (a .s .now) (a .i) (omega arith) (c .before .if1 .left) (c .if2 .left))
+
+pub is-bare-spec : {M : Type 1} → statement M
+is-bare-spec =
+    tie.close
+    (tie.spec
+    shared-slice-read-b
+    before-requires
+    is-grouping-requires
+    returns
+    open-groups-requires
+    returns-2
+    returns-3)

@@ -1,0 +1,17 @@
+-- `finish::braces::is_grouping` meets its contract. Assumes nothing.
+use borrow.Author.Needs.{needs}
+use Rattle.finish.proofs.braces.is_grouping.Statement.{statement}
+use Rattle.finish.proofs.braces.is_grouping.Tie as tie
+
+is-alnum-requires : tie.Need-is-alnum-requires
+is-alnum-requires c κs = search needs
+
+returns : tie.Need-returns
+returns c = rw (c .is-alnum .ensures)
+
+pub is-grouping-spec : {M : Type 1} → statement M
+is-grouping-spec =
+    tie.close
+    (tie.spec
+    is-alnum-requires
+    returns)

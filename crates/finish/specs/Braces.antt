@@ -1,0 +1,158 @@
+-- Set braces without a stack: whether an open brace groups is found by looking back for it. Assumes nothing.
+--     stackOf       the Rust's stack, from the symbols passed, last first
+--     bareAt        whether the symbol at a place is written as it is
+use mathlib.Core.Path.{_≡_, refl, sym, ap, ap₂, _∙_}
+use mathlib.Core.Bool.{Bool, true, false}
+use mathlib.Core.List.{List, [], _∷_, _++_}
+use mathlib.Core.Option.{Option, none, some}
+use Prim.Native.Nat.{ℕ, zero, suc, _+_, _-_, _<_, _≤_}
+use native.Mathlib.Numerals.{add-one}
+use native.Mathlib.Omega.{arith}
+use lib.ListN.{length, getD, drop, drop-of-length-le}
+use lib.Seq.{drop-nil}
+use borrow.Author.Tests.{ne-eqb}
+use Rattle.spec.specs.Symbols.{bytes, is, head, find, starts}
+use Rattle.spec.specs.Finish.{groupsBehind, top, popped, brace, escapeBraces, escapeSetBraces}
+use Rattle.spec.specs.Laws.Symbols.{drop-step}
+use Rattle.text.specs.Parts.{part, length-part, whole-part}
+use Rattle.text.specs.Search.{Finds, finds-nothing}
+use Rattle.text.specs.Writer.{Regions, Appended}
+use Rattle.text.specs.Filling.{Filling, filling-more, filling-source, filling-symbol, passed-by, passed-more, passed-head}
+use Rattle.text.specs.declared.Found.{Found}
+use Rattle.text.specs.declared.Found.the-variants.{Nothing}
+
+unfoldable pub stackOf : List ℕ → List Bool
+stackOf [] = []
+stackOf (x ∷ p) = elim (is "{" x) [ true ↦ groupsBehind (head p) ∷ stackOf p | false ↦ elim (is "}" x) [ true ↦ popped (stackOf p) | false ↦ stackOf p ] ]
+
+-- the symbol x, with those before it last first
+unfoldable pub bareBehind : List ℕ → ℕ → Bool
+bareBehind p x = elim (is "{" x) [ true ↦ groupsBehind (head p) | false ↦ elim (is "}" x) [ true ↦ top (stackOf p) | false ↦ true ] ]
+
+abbrev pub bareAt : List ℕ → ℕ → Bool
+bareAt s i = bareBehind (passed-by s i) (getD s i 0)
+
+-- what is written from place i on
+unfoldable pub braced : List ℕ → ℕ → List ℕ
+braced s i = escapeBraces (stackOf (passed-by s i)) (head (passed-by s i)) (drop i s)
+
+-- ---- one symbol
+escape-step : (p : List ℕ) (x : ℕ) (s : List ℕ) → escapeBraces (stackOf p) (head p) (x ∷ s) ≡ brace (bareBehind p x) x ++ escapeBraces (stackOf (x ∷ p)) x s
+unfolding escapeBraces stackOf bareBehind
+escape-step p x s = go (is "{" x) refl (is "}" x) refl
+  where
+    go : (a : Bool) → is "{" x ≡ a → (b : Bool) → is "}" x ≡ b → escapeBraces (stackOf p) (head p) (x ∷ s) ≡ brace (bareBehind p x) x ++ escapeBraces (stackOf (x ∷ p)) x s
+    go true e b f = rw (e, escapeBraces, stackOf, bareBehind)
+    go false e true f = rw (e, f, escapeBraces, stackOf, bareBehind)
+    go false e false f = rw (e, f, escapeBraces, stackOf, bareBehind)
+
+pub braced-step : (s : List ℕ) (i : ℕ) → i < length s → braced s i ≡ brace (bareAt s i) (getD s i 0) ++ braced s (i + 1)
+unfolding braced
+braced-step s i h =
+    ap (escapeBraces (stackOf (passed-by s i)) (head (passed-by s i))) (drop-step s i h)
+    ∙ escape-step (passed-by s i) (getD s i 0) (drop (i + 1) s)
+    ∙ ap (λ p. brace (bareAt s i) (getD s i 0) ++ escapeBraces (stackOf p) (head p) (drop (i + 1) s)) (sym (passed-more s i h))
+
+pub braced-first : (s : List ℕ) → braced s 0 ≡ escapeSetBraces s
+unfolding braced escapeSetBraces stackOf
+braced-first s = refl
+
+pub braced-end : (s : List ℕ) (i : ℕ) → length s ≤ i → braced s i ≡ []
+unfolding braced escapeBraces
+braced-end s i h = ap (escapeBraces (stackOf (passed-by s i)) (head (passed-by s i))) (drop-of-length-le s h)
+
+-- ---- looking back: d braces have been closed that are still to be opened
+unfoldable pub topBehind : ℕ → List ℕ → Bool
+topBehind d p = top (drop d (stackOf p))
+
+pub top-end : (d : ℕ) → topBehind d [] ≡ true
+unfolding topBehind stackOf
+top-end d = ap top (drop-nil d)
+
+module _ (s : List ℕ) (i d : ℕ) (within : i < length s) where
+  before : (d : ℕ) → topBehind d (passed-by s (i + 1)) ≡ topBehind d (getD s i 0 ∷ passed-by s i)
+  before d = ap (topBehind d) (passed-more s i within)
+
+  pub top-closer : getD s i 0 ≡ 125 → topBehind d (passed-by s (i + 1)) ≡ topBehind (d + 1) (passed-by s i)
+  unfolding topBehind stackOf
+  top-closer e = before d ∙ ap (λ x. topBehind d (x ∷ passed-by s i)) e ∙ go (stackOf (passed-by s i)) d
+    where
+      go : (b : List Bool) (d : ℕ) → top (drop d (popped b)) ≡ top (drop (d + 1) b)
+      go [] d = ap top (drop-nil d ∙ sym (drop-nil (d + 1)))
+      go (x ∷ b) d = ap (λ k. top (drop k (x ∷ b))) (sym (add-one d))
+
+  pub top-other : (getD s i 0 ≡ 125 → ⊥) → (getD s i 0 ≡ 123 → ⊥) → topBehind d (passed-by s (i + 1)) ≡ topBehind d (passed-by s i)
+  unfolding topBehind stackOf
+  top-other f e = before d ∙ rw (ne-eqb (getD s i 0) 123 e, ne-eqb (getD s i 0) 125 f, stackOf)
+
+  pub top-opener : getD s i 0 ≡ 123 → (d ≡ 0 → ⊥) → topBehind d (passed-by s (i + 1)) ≡ topBehind (d - 1) (passed-by s i)
+  unfolding topBehind stackOf
+  top-opener e more = before d ∙ ap (λ x. topBehind d (x ∷ passed-by s i)) e ∙ go d more
+    where
+      go : (d : ℕ) → (d ≡ 0 → ⊥) → topBehind d (123 ∷ passed-by s i) ≡ topBehind (d - 1) (passed-by s i)
+      go zero m = absurd (m refl)
+      go (suc d) m = let n : d ≡ suc d - 1 = omega arith in ap (λ k. topBehind k (passed-by s i)) n
+
+  pub top-found : getD s i 0 ≡ 123 → d ≡ 0 → topBehind d (passed-by s (i + 1)) ≡ groupsBehind (getD (0 ∷ s) i 0)
+  unfolding topBehind stackOf
+  top-found e z =
+      before d ∙ ap (λ x. topBehind d (x ∷ passed-by s i)) e ∙ ap (λ k. topBehind k (123 ∷ passed-by s i)) z
+      ∙ ap groupsBehind (passed-head s i (omega arith))
+
+-- ---- the symbol at a place
+module _ (s : List ℕ) (i : ℕ) (within : i ≤ length s) where
+  pub bare-opener : getD s i 0 ≡ 123 → bareAt s i ≡ groupsBehind (getD (0 ∷ s) i 0)
+  unfolding bareBehind
+  bare-opener e = ap (bareBehind (passed-by s i)) e ∙ ap groupsBehind (passed-head s i within)
+
+  pub bare-closer : getD s i 0 ≡ 125 → bareAt s i ≡ topBehind 0 (passed-by s i)
+  unfolding bareBehind topBehind
+  bare-closer e = ap (bareBehind (passed-by s i)) e
+
+  pub bare-other : (getD s i 0 ≡ 123 → ⊥) → (getD s i 0 ≡ 125 → ⊥) → bareAt s i ≡ true
+  unfolding bareBehind
+  bare-other e f = rw (ne-eqb (getD s i 0) 123 e, ne-eqb (getD s i 0) 125 f, bareBehind)
+
+-- ---- without an opening brace nothing is escaped
+escape-none : (before : ℕ) (s : List ℕ) → find (bytes "{") s ≡ none → escapeBraces [] before s ≡ s
+unfolding escapeBraces find
+escape-none before [] e = refl
+escape-none before (x ∷ s) e = go (is "{" x) refl (is "}" x) refl (escape-none x s) e
+  where
+    go : (a : Bool) → is "{" x ≡ a → (b : Bool) → is "}" x ≡ b → (find (bytes "{") s ≡ none → escapeBraces [] x s ≡ s)
+        → _≡_ {A = Option (List ℕ)} (elim (starts (bytes "{") (x ∷ s)) [ true ↦ some (x ∷ s) | false ↦ find (bytes "{") s ]) none
+        → escapeBraces [] before (x ∷ s) ≡ x ∷ s
+    go true a b f rest e = let t : starts (bytes "{") (x ∷ s) ≡ true = a in let z : _≡_ {A = ℕ} 0 1 = cc in absurd (omega arith)
+    go false a true f rest e = rw (a, f, escapeBraces) (ap (λ l. x ∷ l) (rest (rw a at e)))
+    go false a false f rest e = rw (a, f, escapeBraces) (ap (λ l. x ∷ l) (rest (rw a at e)))
+
+pub escape-absent : (s : List ℕ) → find (bytes "{") s ≡ none → escapeSetBraces s ≡ s
+unfolding escapeSetBraces
+escape-absent s e = escape-none 0 s e
+
+pub escape-nowhere :
+    (from n : ℕ) (w : List ℕ) {r : Found} → Finds (part from (from + n - from) w) r (find (bytes "{") (part from (from + n - from) w)) → r ≡ Nothing
+    → escapeSetBraces (part from n w) ≡ part from n w
+escape-nowhere from n w finds nothing = escape-absent (part from n w) (ap (find (bytes "{")) (sym (whole-part from n w)) ∙ finds-nothing finds nothing)
+
+-- ---- a turn of the loop: the symbol at place i has been written
+module _
+    {w₀ w w′ : List ℕ} {from n to cap count₀ count count′ i : ℕ} {whole : List ℕ} {bare : Bool}
+    (regions : Regions w₀ from n to cap count₀) (filling : Filling w₀ w to cap count₀ count (braced (part from n w₀) i) whole) (more : i < n)
+    (test : bare ≡ bareAt (part from (from + n - from) w) i) (a : Appended w w′ to cap count count′ (brace bare (getD w (from + i) 0)))
+  where
+    pub braced-more : Filling w₀ w′ to cap count₀ count′ (braced (part from n w₀) (i + 1)) whole
+    braced-more =
+        let l = length-part from n w₀ (regions .source) in
+        filling-more filling a
+        (braced-step (part from n w₀) i (omega arith)
+        ∙ ap₂ (λ b x. brace b x ++ braced (part from n w₀) (i + 1))
+        (sym (test ∙ ap (λ s. bareAt s i) (filling-source filling from n (regions .apart))))
+        (sym (filling-symbol filling from n (regions .apart) i more)))
+
+    pub braced-few : count′ ≤ count + 2
+    braced-few = let c = a .counted in let l = short bare (getD w (from + i) 0) in omega arith
+      where
+        short : (b : Bool) (x : ℕ) → length (brace b x) ≤ 2
+        short true x = omega arith
+        short false x = omega arith

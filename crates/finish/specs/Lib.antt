@@ -1,0 +1,4 @@
+-- What the contracts of `finish` cite.
+pub mod Reached
+pub mod Lr
+pub mod Braces

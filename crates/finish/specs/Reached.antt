@@ -1,0 +1,74 @@
+-- Laws of `reached`: whether a sweep comes to a place where a test holds.
+--     comes     the same from place i on
+-- Assumes nothing.
+use mathlib.Core.Path.{_≡_, refl, ap, ap₂, _∙_}
+use mathlib.Core.Bool.{Bool, true, false, _||_}
+use mathlib.Core.List.{List, [], _∷_}
+use mathlib.Core.Option.{Option, none, some}
+use Prim.Native.Nat.{ℕ, zero, suc, _+_, _<_, _≤_}
+use native.Mathlib.Nat.{add-suc, not-suc-le-zero}
+use native.Mathlib.Omega.{arith}
+use lib.ListN.{length, getD, drop, length-drop, drop-of-length-le}
+use lib.Seq.{drop-drop, getD-drop}
+use Rattle.spec.specs.Symbols.{starts, find}
+use Rattle.spec.specs.Sweep.{Turn, Rule, reached}
+use Rattle.spec.specs.Laws.Sweep.{Waits}
+
+module _ (test : List ℕ → Bool) where
+  unfoldable pub comes : Rule → List ℕ → ℕ → Bool
+  comes rule s i = reached test rule (getD (0 ∷ s) i 0) 0 (drop i s)
+
+  skipped : (rule : Rule) (before skip : ℕ) (s : List ℕ) → reached test rule before skip s ≡ reached test rule (getD (before ∷ s) skip 0) 0 (drop skip s)
+  unfolding reached
+  skipped rule before zero [] = refl
+  skipped rule before (suc skip) [] = refl
+  skipped rule before zero (x ∷ s) = refl
+  skipped rule before (suc skip) (x ∷ s) = skipped rule x skip s
+
+  first-turn :
+      (rule : Rule) (before : ℕ) (s : List ℕ) → 0 < length s
+      → reached test rule before 0 s ≡ test s || reached test rule (getD s (rule before s .more) 0) 0 (drop (suc (rule before s .more)) s)
+  unfolding reached
+  first-turn rule before [] h = absurd (not-suc-le-zero h)
+  first-turn rule before (x ∷ s) h = ap (λ b. test (x ∷ s) || b) (skipped rule x (rule before (x ∷ s) .more) s)
+
+  pub comes-first : (rule : Rule) (s : List ℕ) → comes rule s 0 ≡ reached test rule 0 0 s
+  unfolding comes
+  comes-first rule s = refl
+
+  -- one turn at place i
+  pub comes-turn :
+      (rule : Rule) (s : List ℕ) (i : ℕ) → i < length s → {t : Turn} → rule (getD (0 ∷ s) i 0) (drop i s) ≡ t
+      → comes rule s i ≡ test (drop i s) || comes rule s (i + 1 + t .more)
+  unfolding comes
+  comes-turn rule s i inside {t} e =
+      let next : i + 1 + t .more ≡ suc (i + t .more) = omega arith in
+      first-turn rule (getD (0 ∷ s) i 0) (drop i s) (simp length-drop (omega arith))
+      ∙ (rw (e, next, getD-drop i s (t .more) 0, drop-drop (suc (t .more)) i s, add-suc i (t .more)))
+
+  pub comes-end : (rule : Rule) (s : List ℕ) (i : ℕ) → length s ≤ i → comes rule s i ≡ false
+  unfolding comes reached
+  comes-end rule s i h = rw (drop-of-length-le s h)
+
+  pub reached-same :
+      (r r′ : Rule) → ((before : ℕ) (s : List ℕ) → r before s ≡ r′ before s)
+      → (s : List ℕ) (before skip : ℕ) → reached test r before skip s ≡ reached test r′ before skip s
+  unfolding reached
+  reached-same r r′ same [] before skip = refl
+  reached-same r r′ same (x ∷ s) before zero =
+      ap (λ b. test (x ∷ s) || b) (reached-same r r′ same s x (r before (x ∷ s) .more) ∙ ap (λ (t : Turn). reached test r′ x (t .more) s) (same before (x ∷ s)))
+  reached-same r r′ same (x ∷ s) before (suc skip) = reached-same r r′ same s x skip
+
+  -- a test that does not hold where the pattern does not stand
+  pub reached-absent :
+      {pattern : List ℕ} {rule : Rule} → Waits pattern rule → ((s : List ℕ) → starts pattern s ≡ false → test s ≡ false)
+      → (s : List ℕ) (before : ℕ) → find pattern s ≡ none → reached test rule before 0 s ≡ false
+  unfolding reached find
+  reached-absent waits fails [] before e = refl
+  reached-absent {pattern} {rule} waits fails (x ∷ s) before e = go (starts pattern (x ∷ s)) refl (reached-absent waits fails s x) e
+    where
+      go : (t : Bool) → starts pattern (x ∷ s) ≡ t → (find pattern s ≡ none → reached test rule x 0 s ≡ false)
+          → _≡_ {A = Option (List ℕ)} (elim t [ true ↦ some (x ∷ s) | false ↦ find pattern s ]) none
+          → test (x ∷ s) || reached test rule x (rule before (x ∷ s) .more) s ≡ false
+      go true b rest e = let z : _≡_ {A = ℕ} 0 1 = cc in absurd (omega arith)
+      go false b rest e = ap₂ (λ (a : Bool) (t : Turn). a || reached test rule x (t .more) s) (fails (x ∷ s) b) (waits .copies before (x ∷ s) b) ∙ rest e

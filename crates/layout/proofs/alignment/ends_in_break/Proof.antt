@@ -1,0 +1,31 @@
+-- `layout::alignment::ends_in_break` meets its contract, by the last two symbols. Assumes nothing.
+use Rattle.layout.specs.Aligned.{ends-none, ends-is}
+use mathlib.Core.Path.{sym}
+use native.Mathlib.Omega.{arith}
+use Rattle.layout.proofs.alignment.ends_in_break.Statement.{statement}
+use Rattle.layout.proofs.alignment.ends_in_break.Tie as tie
+
+returns : tie.Need-returns
+returns c = sym (ends-none (c .before .args .s .now) (c .if1 .taken))
+
+shared-slice-read-result : tie.Need-shared-slice-read-result
+shared-slice-read-result c = omega arith
+
+sub-result : tie.Need-sub-result
+sub-result c = omega arith
+
+shared-slice-read-result-2 : tie.Need-shared-slice-read-result-2
+shared-slice-read-result-2 c = omega arith
+
+returns-2 : tie.Need-returns-2
+returns-2 c = ends-is (c .before .before .before .args .s .now) (c .before .before .if1 .left)
+
+pub ends-in-break-spec : {M : Type 1} → statement M
+ends-in-break-spec =
+    tie.close
+    (tie.spec
+    returns
+    shared-slice-read-result
+    sub-result
+    shared-slice-read-result-2
+    returns-2)

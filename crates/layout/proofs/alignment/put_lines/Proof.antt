@@ -1,0 +1,99 @@
+-- `layout::alignment::put_lines` meets its contract. The loop's invariant: what has been written and what is to be written from place i on are the whole.
+-- Assumes nothing.
+use Rattle.layout.specs.Aligned.{linedTo, lined-end, lines-more, lines-few}
+use Rattle.text.specs.Filling.{Filling, filling-none, filling-all}
+use Rattle.text.specs.Parts.{part}
+use Rattle.text.specs.Writer.{appended-long}
+use lib.ListN.{length, length-take, length-drop}
+use mathlib.Core.Path.{_≡_, refl}
+use Prim.Native.Nat.{_+_, _-_, _*_, _≤_}
+use native.Mathlib.Omega.{arith}
+use Rattle.layout.proofs.alignment.put_lines.Statement.{statement}
+use Rattle.layout.proofs.alignment.put_lines.Tie as tie
+
+abbrev Inv-loop : tie.InvT-loop
+Inv-loop work₀ from n to count start stop end total₀ i₀ work total i =
+    (end ≡ from + n) × (length work ≡ length work₀) × (start ≤ i) × (i ≤ stop) × (total ≤ count + 2 * (i - start))
+    × Filling work₀ work to 8192 count total (linedTo (part from n work₀) stop i) (linedTo (part from n work₀) stop start)
+
+abbrev μ-loop : tie.MeasureT-loop
+μ-loop work₀ from n to count start stop end total₀ i₀ work total i = stop - i
+
+add-end : tie.Need-add-end Inv-loop μ-loop
+add-end c = omega arith
+
+loop-holds : tie.Need-loop-holds Inv-loop μ-loop
+loop-holds c = (refl, refl, omega arith, c .before .pre .1 .0, omega arith, filling-none _ _ _ _ _)
+
+sub-is-break : tie.Need-sub-is-break Inv-loop μ-loop
+sub-is-break c = omega arith
+
+part-is-break-start : tie.Need-part-is-break-start Inv-loop μ-loop
+part-is-break-start c = omega arith
+
+part-is-break-end : tie.Need-part-is-break-end Inv-loop μ-loop
+part-is-break-end c = omega arith
+
+is-break-requires : tie.Need-is-break-requires Inv-loop μ-loop
+is-break-requires c κs = simp (length-take, length-drop) (omega arith)
+
+add-b : tie.Need-add-b Inv-loop μ-loop
+add-b c = omega arith
+
+slice-read-b : tie.Need-slice-read-b Inv-loop μ-loop
+slice-read-b c = omega arith
+
+put-piece-requires : tie.Need-put-piece-requires Inv-loop μ-loop
+put-piece-requires c κs = let p = c .before .before .before .before .before .before .before .before .pre in record { region = omega arith; small = omega arith }
+
+add-i : tie.Need-add-i Inv-loop μ-loop
+add-i c = omega arith
+
+loop-less : tie.Need-loop-less Inv-loop μ-loop
+loop-less c = omega arith
+
+loop-again : tie.Need-loop-again Inv-loop μ-loop
+loop-again c =
+    let l = c .before .before .before .before .before .before .before .before .before in
+    let s = l .before .before in
+    let few = lines-few (s .pre .0) (l .loop .inv .5) (c .before .before .before .before .before .before .before .before .loop-test .taken) (s .pre .1 .1) (c .before .before .before .before .before .is-break .ensures) (c .before .before .put-piece .ensures) in (
+      refl,
+      omega (arith, appended-long (c .before .before .put-piece .ensures)),
+      omega arith,
+      omega arith,
+      omega arith,
+      lines-more (s .pre .0) (l .loop .inv .5) (c .before .before .before .before .before .before .before .before .loop-test .taken) (s .pre .1 .1) (c .before .before .before .before .before .is-break .ensures) (c .before .before .put-piece .ensures),
+    )
+
+same-length : tie.Need-same-length Inv-loop μ-loop
+same-length c = c .before .loop .inv .1
+
+returns : tie.Need-returns Inv-loop μ-loop
+returns c =
+    let l = c .before in
+    let a = l .before .before .args in
+    record {
+      appended = filling-all (l .loop .inv .5) (lined-end (part (a .from) (a .n) (a .work .now)) (a .stop) (l .loop .i) (omega arith));
+      few = omega arith;
+    }
+
+pub put-lines-spec : {M : Type 1} → statement M
+put-lines-spec =
+    tie.close
+    (tie.spec
+    Inv-loop
+    μ-loop
+    add-end
+    loop-holds
+    sub-is-break
+    part-is-break-start
+    part-is-break-end
+    is-break-requires
+    add-b
+    slice-read-b
+    put-piece-requires
+    add-i
+    loop-less
+    loop-again
+    same-length
+    returns)

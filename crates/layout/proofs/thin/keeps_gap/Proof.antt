@@ -1,0 +1,65 @@
+-- `layout::thin::keeps_gap` meets its contract, by the last backslash. Assumes nothing.
+use Rattle.layout.specs.Thin.{gap-found, gap-none, gapIf}
+use Rattle.spec.specs.Finish.{spacing}
+use Rattle.text.specs.Parts.{rest-of}
+use Rattle.text.specs.Search.{reach}
+use lib.ListN.{length}
+use mathlib.Core.Bool.{not}
+use mathlib.Core.Path.{sym, ap, _∙_}
+use Prim.Native.Nat.{_+_, _≤_}
+use native.Mathlib.Omega.{arith}
+use borrow.Author.Needs.{needs}
+use Rattle.layout.proofs.thin.keeps_gap.Statement.{statement}
+use Rattle.layout.proofs.thin.keeps_gap.Tie as tie
+
+last-backslash-requires : tie.Need-last-backslash-requires
+last-backslash-requires c κs = search needs
+
+enum-known-k : tie.Need-enum-known-k
+enum-known-k c = search needs
+
+enum-told : tie.Need-enum-told
+enum-told c = search needs
+
+returns : tie.Need-returns
+returns c = gap-none (c .before .before .before .before .args .s .now) (c .before .before .last-backslash .ensures) (c .enum-told .given .1)
+
+-- the backslash stands in the text
+fits : (c : tie.After-known-told) → c .before .k .given .0 .0 + 1 ≤ length (c .before .before .before .before .before .args .s .now)
+fits c = let q = ap reach (c .before .k .given .1) in let w = c .before .before .before .last-backslash .ensures .within in omega arith
+
+add-behind : tie.Need-add-behind
+add-behind c = let f = fits c in omega arith
+
+sub-is-spacing : tie.Need-sub-is-spacing
+sub-is-spacing c = fits c
+
+part-is-spacing-start : tie.Need-part-is-spacing-start
+part-is-spacing-start c = fits c
+
+part-is-spacing-end : tie.Need-part-is-spacing-end
+part-is-spacing-end c = omega arith
+
+is-spacing-requires : tie.Need-is-spacing-requires
+is-spacing-requires c κs = search needs
+
+returns-2 : tie.Need-returns-2
+returns-2 c =
+    let s = c .before .before .before .before .before .before .before .args .s .now in
+    gap-found s (c .before .before .before .before .before .last-backslash .ensures) (c .before .before .before .k .given .1)
+    ∙ ap (λ b. gapIf (not b)) (sym (c .is-spacing .ensures ∙ ap spacing (rest-of (c .before .before .before .k .given .0 .0 + 1) s)))
+
+pub keeps-gap-spec : {M : Type 1} → statement M
+keeps-gap-spec =
+    tie.close
+    (tie.spec
+    last-backslash-requires
+    enum-known-k
+    enum-told
+    returns
+    add-behind
+    sub-is-spacing
+    part-is-spacing-start
+    part-is-spacing-end
+    is-spacing-requires
+    returns-2)

@@ -1,0 +1,149 @@
+// A thin space `\;` is dropped behind a control word, which carries its own spacing. Whether one stands there is told by the last
+// backslash since the thin space before; what was written since then is what was read.
+use text::Found;
+use text::Progress;
+ghost use mathlib.Core.Path.{_≡_};
+ghost use mathlib.Core.List.{reverse};
+ghost use Rattle.spec.specs.Symbols.{bytes, same, starts};
+ghost use Rattle.spec.specs.Result.{stage};
+ghost use Rattle.spec.specs.Finish.{atomCommands, oneOf, spacing, gap, dropThinSpaceAfterCommands};
+ghost use Rattle.text.specs.Parts.{part};
+ghost use Rattle.text.specs.Writer.{Room, Appended, Regions};
+ghost use Rattle.text.specs.Stage.{Ready, Staged};
+ghost use Rattle.layout.specs.Thin.{LastBackslash, Letters, argument, gapIf};
+
+fn last_backslash(s: &[u8]) -> Found
+    ensures { λ r. ⌜ LastBackslash (now (s .entry)) r ⌝ }
+{
+    let mut i = s.len();
+    while 0 < i {
+        let at = i - 1;
+        if s[at] == b'\\' {
+            return Found::At(at);
+        }
+        i = at;
+    }
+    Found::Nothing
+}
+
+// How many letters the text begins with.
+fn letters(s: &[u8]) -> usize
+    ensures { λ r. ⌜ Letters (now (s .entry)) r ⌝ }
+{
+    let mut end = 0;
+    while end < s.len() {
+        if !text::is_letter(s[end]) {
+            return end;
+        }
+        end += 1;
+    }
+    end
+}
+
+fn is_same(a: &[u8], b: &[u8]) -> bool
+    ensures { λ r. ⌜ r ≡ same (now (a .entry)) (now (b .entry)) ⌝ }
+{
+    if a.len() != b.len() {
+        return false;
+    }
+    text::starts_with(b, a)
+}
+
+// A command that sets an atom: a word behind it still wants a space.
+fn is_atom_command(word: &[u8]) -> bool
+    ensures { λ r. ⌜ r ≡ oneOf atomCommands (now (word .entry)) ⌝ }
+{
+    is_same(b"text", word)
+        | (is_same(b"mathrm", word)
+            | (is_same(b"operatorname", word)
+                | (is_same(b"mathbf", word) | is_same(b"mathit", word))))
+}
+
+// What stands behind a control word: nothing, or an argument in braces.
+fn is_argument(tail: &[u8]) -> bool
+    ensures { λ r. ⌜ r ≡ argument (now (tail .entry)) ⌝ }
+{
+    let n = tail.len();
+    if n == 0 {
+        return true;
+    }
+    (tail[0] == b'{') & (tail[n - 1] == b'}')
+}
+
+// Whether the text, which stands behind a backslash, is a command with its own spacing.
+fn is_spacing(s: &[u8]) -> bool
+    ensures { λ r. ⌜ r ≡ spacing (now (s .entry)) ⌝ }
+{
+    let end = letters(s);
+    (0 < end) & (is_argument(&s[end..]) & !is_atom_command(&s[0..end]))
+}
+
+// Whether a thin space stays behind this text.
+fn keeps_gap(s: &[u8]) -> bool
+    ensures { λ r. ⌜ gap (reverse (now (s .entry))) ≡ gapIf r ⌝ }
+{
+    let Found::At(k) = last_backslash(s) else {
+        return true;
+    };
+    let behind = k + 1;
+    !is_spacing(&s[behind..])
+}
+
+fn is_gap(s: &[u8]) -> bool
+    ensures { λ r. ⌜ r ≡ starts (bytes "\\;") (now (s .entry)) ⌝ }
+{
+    text::starts_with(s, b"\\;")
+}
+
+// Appends a thin space, or nothing.
+fn put_gap(work: &mut [u8], to: usize, count: usize, keeps: bool) -> usize
+    requires { ⌜ Room (now work) to 8192 count 2 ⌝ }
+    ensures { λ r. ⌜ Appended (now (work .entry)) (now (work .exit)) to 8192 count r (gapIf keeps) ⌝ }
+{
+    if keeps {
+        return text::put_all(work, to, text::CAP, count, b"\\;");
+    }
+    count
+}
+
+// Writes the `n` symbols at `from` to `to`, thin spaces dropped. `start` is behind the last thin space.
+fn drop_gaps(work: &mut [u8], from: usize, n: usize, to: usize) -> usize
+    requires { ⌜ Regions (now work) from n to 8192 0 ⌝ }
+    ensures { λ r. ⌜ Appended (now (work .entry)) (now (work .exit)) to 8192 0 r (dropThinSpaceAfterCommands (part from n (now (work .entry)))) ⌝ }
+{
+    let end = from + n;
+    let mut count = 0;
+    let mut start = 0;
+    let mut i = 0;
+    while i < n {
+        let at = from + i;
+        if is_gap(&work[at..end]) {
+            let since = from + start;
+            let keeps = keeps_gap(&work[since..at]);
+            count = put_gap(work, to, count, keeps);
+            i += 2;
+            start = i;
+            continue;
+        }
+        let b = work[at];
+        count = text::put(work, to, text::CAP, count, b);
+        i += 1;
+    }
+    count
+}
+
+pub fn drop_thin_space_after_commands(work: &mut [u8], text: Progress) -> Progress
+    requires { ⌜ Ready (now work) text ⌝ }
+    ensures { λ r. ⌜ Staged (now (work .entry)) (now (work .exit)) text r (stage dropThinSpaceAfterCommands) ⌝ }
+{
+    let Progress::Text(from, n) = text else {
+        return text;
+    };
+    let end = from + n;
+    let Found::At(_) = text::find(&work[from..end], b"\\;") else {
+        return text;
+    };
+    let to = text::CAP - from;
+    let count = drop_gaps(work, from, n, to);
+    text::finished(to, count)
+}

@@ -1,0 +1,25 @@
+-- `rewrite::rules::wrap_multichar` meets its contract, by where the letters and digits end. Assumes nothing.
+use Rattle.rewrite.specs.Edits.{ident-wrapped, ident-short}
+use Rattle.spec.specs.Laws.Symbols.{starts-long}
+use native.Mathlib.Omega.{arith}
+use Rattle.rewrite.proofs.rules.wrap_multichar.Statement.{statement}
+use Rattle.rewrite.proofs.rules.wrap_multichar.Tie as tie
+
+ident-end-requires : tie.Need-ident-end-requires
+ident-end-requires c κs =
+    let s = c .before .before in
+    let l = starts-long (s .args .pattern .now) (s .args .s .now) (s .pre .starts-with) in omega arith
+
+returns : tie.Need-returns
+returns c = λ left. ident-wrapped (c .before .before .before .before .pre) left (c .before .ident-end .ensures) (omega arith)
+
+returns-2 : tie.Need-returns-2
+returns-2 c = λ left. ident-short (c .before .before .before .before .pre) left (c .before .ident-end .ensures) (omega arith)
+
+pub wrap-multichar-spec : {M : Type 1} → statement M
+wrap-multichar-spec =
+    tie.close
+    (tie.spec
+    ident-end-requires
+    returns
+    returns-2)

@@ -1,0 +1,3 @@
+-- What the contracts of `rewrite` cite.
+pub mod Edits
+pub mod Turns

@@ -1,0 +1,103 @@
+// The rules: what is to be written where a pattern stands.
+use super::Edit;
+use super::Kind;
+use text::Found;
+use text::Span;
+ghost use mathlib.Core.Bool.{true};
+ghost use mathlib.Core.List.{List};
+ghost use Prim.Native.Nat.{ℕ, _≤_, _<_};
+ghost use lib.ListN.{length};
+ghost use Rattle.spec.specs.Sweep.{replacing};
+ghost use Rattle.spec.specs.Words.{parenToBrace};
+ghost use Rattle.rewrite.specs.Edits.{Edited, Met, Run, ruleOf, wrapTextBy, wrapMulticharBy};
+
+// The text begins with a pattern that ends with a parenthesis. With no closer, all of the text is taken.
+fn paren_to_brace(s: &[u8], pattern: &[u8]) -> Edit
+    requires { ⌜ Met (now pattern) (now s) ⌝ }
+    ensures { λ r. ⌜ ((left : List ℕ) → Edited (parenToBrace (now (pattern .entry)) left) left (now (s .entry)) r) ⌝ }
+{
+    let open = pattern.len();
+    let Found::At(k) = closing::find_matching_paren(&s[open..]) else {
+        return Edit::Write(
+            Span {
+                start: open,
+                end: s.len(),
+            },
+            s.len(),
+            false,
+        );
+    };
+    let close = open + k;
+    Edit::Write(
+        Span {
+            start: open,
+            end: close,
+        },
+        close + 1,
+        true,
+    )
+}
+
+// The text begins with a pattern of a sign and `\text{`. With no closer, nothing is done.
+fn wrap_text(s: &[u8], pattern: &[u8]) -> Edit
+    requires { ⌜ Met (now pattern) (now s) ⌝ }
+    ensures { λ r. ⌜ ((left : List ℕ) → Edited (wrapTextBy (now (pattern .entry)) left) left (now (s .entry)) r) ⌝ }
+{
+    let open = pattern.len();
+    let Found::At(k) = closing::find_matching_brace(&s[open..]) else {
+        return Edit::Copy;
+    };
+    let end = open + k + 1;
+    Edit::Write(Span { start: 1, end }, end, true)
+}
+
+// Where the letters and digits end that stand behind the first symbol.
+fn ident_end(s: &[u8]) -> usize
+    requires { ⌜ 0 < length (now s) ⌝ }
+    ensures { λ r. ⌜ Run (now (s .entry)) r ⌝ }
+{
+    let mut end = 1;
+    while end < s.len() {
+        if !text::is_alnum(s[end]) {
+            return end;
+        }
+        end += 1;
+    }
+    end
+}
+
+// The text begins with a sign.
+fn wrap_multichar(s: &[u8], pattern: &[u8]) -> Edit
+    requires { ⌜ Met (now pattern) (now s) ⌝ }
+    ensures { λ r. ⌜ ((left : List ℕ) → Edited (wrapMulticharBy (now (pattern .entry)) left) left (now (s .entry)) r) ⌝ }
+{
+    let end = ident_end(s);
+    if 2 < end {
+        return Edit::Write(Span { start: 1, end }, end, true);
+    }
+    Edit::Copy
+}
+
+// The text begins with the pattern, which is taken.
+fn literal(s: &[u8], pattern: &[u8]) -> Edit
+    requires { ⌜ Met (now pattern) (now s) ⌝ }
+    ensures { λ r. ⌜ ((left : List ℕ) → Edited (replacing (now (pattern .entry)) left) left (now (s .entry)) r) ⌝ }
+{
+    Edit::Write(Span { start: 0, end: 0 }, pattern.len(), false)
+}
+
+// What is done with the text's first symbol, or with more of them.
+pub fn edit_at(s: &[u8], kind: Kind, pattern: &[u8]) -> Edit
+    requires { ⌜ (length (now s) ≤ 16384) × (0 < length (now pattern)) ⌝ }
+    ensures { λ r. ⌜ ((left : List ℕ) → Edited (ruleOf kind (now (pattern .entry)) left) left (now (s .entry)) r) ⌝ }
+{
+    if !text::starts_with(s, pattern) {
+        return Edit::Copy;
+    }
+    match kind {
+        Kind::Literal => literal(s, pattern),
+        Kind::ParenToBrace => paren_to_brace(s, pattern),
+        Kind::WrapText => wrap_text(s, pattern),
+        Kind::WrapMultichar => wrap_multichar(s, pattern),
+    }
+}

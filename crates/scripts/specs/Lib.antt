@@ -1,0 +1,2 @@
+-- Laws that the proofs of `scripts` cite.
+pub mod Scripts

@@ -1,0 +1,60 @@
+// Subscripts and superscripts: a group in parentheses, a text block, or two letters or more behind `_` or `^` get braces. Each
+// rewriting is a stage of its own, for one sign.
+use rewrite::Kind;
+use text::Progress;
+ghost use Rattle.spec.specs.Result.{stage};
+ghost use Rattle.spec.specs.Scripts.{convertParenToBrace, wrapTextSubscripts, wrapMulticharScripts, convertScripts, convertSubscripts, convertSuperscripts};
+ghost use Rattle.text.specs.Stage.{Ready, Staged};
+
+// `_(`..`)` becomes `_{`..`}`; what stands inside is copied as it is.
+pub fn convert_paren_to_brace(work: &mut [u8], text: Progress, sign: u8) -> Progress
+    requires { ⌜ Ready (now work) text ⌝ }
+    ensures { λ r. ⌜ Staged (now (work .entry)) (now (work .exit)) text r (stage (convertParenToBrace sign)) ⌝ }
+{
+    let pattern = [sign, b'('];
+    let left = [sign, b'{'];
+    rewrite::convert(work, text, Kind::ParenToBrace, &pattern, &left)
+}
+
+// `_\text{`..`}` becomes `_{\text{`..`}}`.
+pub fn wrap_text_subscripts(work: &mut [u8], text: Progress, sign: u8) -> Progress
+    requires { ⌜ Ready (now work) text ⌝ }
+    ensures { λ r. ⌜ Staged (now (work .entry)) (now (work .exit)) text r (stage (wrapTextSubscripts sign)) ⌝ }
+{
+    let pattern = [sign, b'\\', b't', b'e', b'x', b't', b'{'];
+    let left = [sign, b'{'];
+    rewrite::convert(work, text, Kind::WrapText, &pattern, &left)
+}
+
+// `_abc` becomes `_{abc}`: LaTeX takes one symbol only.
+pub fn wrap_multichar_scripts(work: &mut [u8], text: Progress, sign: u8) -> Progress
+    requires { ⌜ Ready (now work) text ⌝ }
+    ensures { λ r. ⌜ Staged (now (work .entry)) (now (work .exit)) text r (stage (wrapMulticharScripts sign)) ⌝ }
+{
+    let pattern = [sign];
+    let left = [sign, b'{'];
+    rewrite::convert(work, text, Kind::WrapMultichar, &pattern, &left)
+}
+
+fn convert_scripts(work: &mut [u8], text: Progress, sign: u8) -> Progress
+    requires { ⌜ Ready (now work) text ⌝ }
+    ensures { λ r. ⌜ Staged (now (work .entry)) (now (work .exit)) text r (convertScripts sign) ⌝ }
+{
+    let grouped = convert_paren_to_brace(work, text, sign);
+    let blocked = wrap_text_subscripts(work, grouped, sign);
+    wrap_multichar_scripts(work, blocked, sign)
+}
+
+pub fn convert_subscripts(work: &mut [u8], text: Progress) -> Progress
+    requires { ⌜ Ready (now work) text ⌝ }
+    ensures { λ r. ⌜ Staged (now (work .entry)) (now (work .exit)) text r convertSubscripts ⌝ }
+{
+    convert_scripts(work, text, b'_')
+}
+
+pub fn convert_superscripts(work: &mut [u8], text: Progress) -> Progress
+    requires { ⌜ Ready (now work) text ⌝ }
+    ensures { λ r. ⌜ Staged (now (work .entry)) (now (work .exit)) text r convertSuperscripts ⌝ }
+{
+    convert_scripts(work, text, b'^')
+}

@@ -1,0 +1,262 @@
+-- `sizing::size` meets its contract. It calls itself on a shorter part, so its measure is the number of symbols. The loop's invariant: what has been
+-- written and what is to be written from place i on are the whole. Assumes nothing.
+use Rattle.sizing.specs.Pieces.{sizedAt}
+use Rattle.sizing.specs.Turns.{sized-first, sized-end, kept-piece, kept-fits, kept-more, grown-fits, inner-apart, grown-more}
+use Rattle.spec.specs.Finish.{sizeDelimitersToContent}
+use Rattle.text.specs.Filling.{Filling, filling-none, filling-all}
+use Rattle.text.specs.Parts.{part, length-part}
+use Rattle.text.specs.Writer.{apart-part, appended-long}
+use lib.ListN.{length, drop, length-take, length-drop}
+use mathlib.Core.Path.{_≡_, refl, sym, subst}
+use Prim.Native.Nat.{ℕ, _+_, _-_, _*_, _<_, _≤_}
+use native.Mathlib.Omega.{arith}
+use borrow.Author.Needs.{needs}
+use borrow.Fn.Kinds.{In}
+use borrow.Fn.PlainCycle.{Measures, is, falls, and}
+use Rattle.text.proofs.copy.Reads as copy-reads
+use Rattle.sizing.proofs.pieces.piece_at.Reads as piece-at-reads
+use Rattle.sizing.proofs.put_left.Reads as put-left-reads
+use Rattle.sizing.proofs.put_right.Reads as put-right-reads
+use Rattle.sizing.proofs.closer_of.Reads as closer-of-reads
+use Rattle.sizing.proofs.size.Reads as size
+use Rattle.sizing.proofs.size.Kinds as size-kinds
+use Rattle.sizing.proofs.+size.Lts-size as size-lts
+use Rattle.sizing.proofs.+size.{statement}
+use Rattle.sizing.proofs.+size.Tie.{close}
+
+abbrev μ-size : Measures 1 size-kinds.ps ℕ
+μ-size κs a = a .1 .1 .0
+
+abbrev size-at : ℕ → In 1 size-kinds.ps
+size-at t = and 1 size-kinds.ps (is 1 size-kinds.ps μ-size t) size.Pre
+
+abbrev size-below : ℕ → In 1 size-kinds.ps
+size-below t = and 1 size-kinds.ps (falls 1 size-kinds.ps _<_ μ-size t) size.Pre
+
+abbrev callees : ℕ → size-lts.Claims
+callees t = (
+  piece-at-reads.Asked,
+  piece-at-reads.Learnt,
+  copy-reads.Asked,
+  copy-reads.Learnt,
+  put-left-reads.Asked,
+  put-left-reads.Learnt,
+  size-below t,
+  size.Post,
+  closer-of-reads.Asked,
+  closer-of-reads.Learnt,
+  put-right-reads.Asked,
+  put-right-reads.Learnt,
+)
+
+abbrev Inv-loop : size-lts.InvT-loop
+Inv-loop work₀ from n to count end total₀ i₀ work total i =
+    (i ≤ n) × (end ≡ from + n) × (length work ≡ length work₀) × (total ≤ count + 7 * i)
+    × Filling work₀ work to 8192 count total (sizedAt (part from n work₀) i) (sizeDelimitersToContent (part from n work₀))
+
+abbrev μ-loop : size-lts.MeasureT-loop
+μ-loop work₀ from n to count end total₀ i₀ work total i = n - i
+
+add-end : (t : ℕ) → size-lts.Need-add-end (callees t) (size-at t) size.Post Inv-loop μ-loop
+add-end t c = omega arith
+
+loop-holds : (t : ℕ) → size-lts.Need-loop-holds (callees t) (size-at t) size.Post Inv-loop μ-loop
+loop-holds t c =
+    let a = c .before .args in
+    let s = part (a .from) (a .n) (a .work .now) in (
+      omega arith,
+      refl,
+      refl,
+      omega arith,
+      subst (λ r. Filling (a .work .now) (a .work .now) (a .to) 8192 (a .count) (a .count) r (sizeDelimitersToContent s)) (sym (sized-first s)) (filling-none _ _ _ _ _),
+    )
+
+add-at : (t : ℕ) → size-lts.Need-add-at (callees t) (size-at t) size.Post Inv-loop μ-loop
+add-at t c = omega arith
+
+sub-piece-at : (t : ℕ) → size-lts.Need-sub-piece-at (callees t) (size-at t) size.Post Inv-loop μ-loop
+sub-piece-at t c = omega arith
+
+part-piece-at-start : (t : ℕ) → size-lts.Need-part-piece-at-start (callees t) (size-at t) size.Post Inv-loop μ-loop
+part-piece-at-start t c = omega arith
+
+part-piece-at-end : (t : ℕ) → size-lts.Need-part-piece-at-end (callees t) (size-at t) size.Post Inv-loop μ-loop
+part-piece-at-end t c = omega arith
+
+piece-at-requires : (t : ℕ) → size-lts.Need-piece-at-requires (callees t) (size-at t) size.Post Inv-loop μ-loop
+piece-at-requires t c κs =
+    let p = c .before .before .before .before .before .pre .1 in
+    (simp (length-take, length-drop) (omega arith), simp (length-take, length-drop) (omega arith))
+
+enum-known-k : (t : ℕ) → size-lts.Need-enum-known-k (callees t) (size-at t) size.Post Inv-loop μ-loop
+enum-known-k t c = search needs
+
+-- the symbols that are copied
+keeps : (t : ℕ) (c : size-lts.After-known-told (callees t) (size-at t) size.Post Inv-loop μ-loop)
+    → (let l = c .before .before .before .before .before .before .before in let k = c .before .k .given .0 .0 in (0 < k) × (l .loop .i + k ≤ l .before .before .args .n))
+keeps t c =
+    let l = c .before .before .before .before .before .before .before in (
+      kept-piece (l .loop .i) (l .before .before .pre .1) (l .loop .inv .4) _ (c .before .before .before .piece-at .ensures) (c .before .k .given .1) .some,
+      kept-fits (l .loop .i) (l .before .before .pre .1) (l .loop .inv .4) _ (c .before .before .before .piece-at .ensures) (c .before .k .given .1),
+    )
+
+copy-requires : (t : ℕ) → size-lts.Need-copy-requires (callees t) (size-at t) size.Post Inv-loop μ-loop
+copy-requires t c κs =
+    let l = c .before .before .before .before .before .before .before .before in
+    let a = l .before .before .args in
+    let p = l .before .before .pre .1 in
+    let f = keeps t (c .before) in
+    let k = c .before .before .k .given .0 .0 in
+    (record { region = omega arith; small = omega arith }, (omega arith, apart-part (a .from) (a .n) (a .to) 8192 (l .loop .i) k (p .apart) (f .1)))
+
+add-i : (t : ℕ) → size-lts.Need-add-i (callees t) (size-at t) size.Post Inv-loop μ-loop
+add-i t c = let f = keeps t (c .before .before .before .before) in omega arith
+
+loop-less : (t : ℕ) → size-lts.Need-loop-less (callees t) (size-at t) size.Post Inv-loop μ-loop
+loop-less t c = let f = keeps t (c .before .before .before .before) in omega arith
+
+loop-again : (t : ℕ) → size-lts.Need-loop-again (callees t) (size-at t) size.Post Inv-loop μ-loop
+loop-again t c =
+    let l = c .before .before .before .before .before .before .before .before .before .before .before in
+    let s = l .before .before in
+    let f = keeps t (c .before .before .before .before) in
+    let k = c .before .before .before .before .before .k .given .0 .0 in
+    let a = c .before .before .copy .ensures in
+    let n = a .counted in
+    let m = length-take k (drop (s .args .from + l .loop .i) (l .loop .work)) in
+    let long = appended-long a in
+    (f .1, refl, omega arith, omega arith, kept-more (l .loop .i) (s .pre .1) (l .loop .inv .4) _ (c .before .before .before .before .before .before .before .piece-at .ensures) (c .before .before .before .before .before .k .given .1) a)
+
+enum-known-k-2 : (t : ℕ) → size-lts.Need-enum-known-k-2 (callees t) (size-at t) size.Post Inv-loop μ-loop
+enum-known-k-2 t c = search needs
+
+slice-read-b : (t : ℕ) → size-lts.Need-slice-read-b (callees t) (size-at t) size.Post Inv-loop μ-loop
+slice-read-b t c = omega arith
+
+put-left-requires : (t : ℕ) → size-lts.Need-put-left-requires (callees t) (size-at t) size.Post Inv-loop μ-loop
+put-left-requires t c κs = let p = c .before .before .before .before .before .before .before .before .before .before .before .pre .1 in record { region = omega arith; small = omega arith }
+
+-- the group that is sized
+grows : (t : ℕ) (c : size-lts.After-known-told2 (callees t) (size-at t) size.Post Inv-loop μ-loop) → (let l = c .before .before .before .before .before .before .before in l .loop .i + c .before .k2 .given .0 .0 + 2 ≤ l .before .before .args .n)
+grows t c = let l = c .before .before .before .before .before .before .before in grown-fits (l .loop .i) (l .before .before .pre .1) (l .loop .inv .4) _ (c .before .before .before .piece-at .ensures) (c .before .k2 .given .1)
+
+add-inside : (t : ℕ) → size-lts.Need-add-inside (callees t) (size-at t) size.Post Inv-loop μ-loop
+add-inside t c = let f = grows t (c .before .before .before .before .before) in omega arith
+
+add-size : (t : ℕ) → size-lts.Need-add-size (callees t) (size-at t) size.Post Inv-loop μ-loop
+add-size t c = let f = grows t (c .before .before .before .before .before .before) in omega arith
+
+size-requires : (t : ℕ) → size-lts.Need-size-requires (callees t) (size-at t) size.Post Inv-loop μ-loop
+size-requires t c κs =
+    let known = c .before .before .before .before .before .before in
+    let l = known .before .before .before .before .before .before .before in
+    let p = l .before .before .pre .1 in
+    let f = grows t known in
+    let left = c .before .before .before .put-left .ensures in
+    let long = appended-long left in
+    let n = left .counted in (
+      omega arith,
+      record {
+        source = omega arith;
+        region = omega arith;
+        apart = inner-apart (l .loop .i) p (l .loop .inv .4) _ (known .before .before .before .piece-at .ensures) (known .before .k2 .given .1);
+        short = omega arith;
+        small = omega arith;
+      },
+    )
+
+closer-of-requires : (t : ℕ) → size-lts.Need-closer-of-requires (callees t) (size-at t) size.Post Inv-loop μ-loop
+closer-of-requires t c κs = search needs
+
+put-right-requires : (t : ℕ) → size-lts.Need-put-right-requires (callees t) (size-at t) size.Post Inv-loop μ-loop
+put-right-requires t c κs =
+    let known = c .before .before .before .before .before .before .before .before .before .before .before in
+    let l = known .before .before .before .before .before .before .before in
+    let p = l .before .before .pre .1 in
+    let f = grows t known in
+    let left = c .before .before .before .before .before .before .before .before .put-left .ensures in
+    let inner = c .before .before .before .before .size .ensures in
+    let long = appended-long left in
+    let longer = appended-long (inner .appended) in
+    let n = left .counted in
+    let m = inner .few in
+    record { region = omega arith; small = omega arith }
+
+add-i-2 : (t : ℕ) → size-lts.Need-add-i-2 (callees t) (size-at t) size.Post Inv-loop μ-loop
+add-i-2 t c = let f = grows t (c .before .before .before .before .before .before .before .before .before .before .before .before .before .before) in omega arith
+
+add-i-3 : (t : ℕ) → size-lts.Need-add-i-3 (callees t) (size-at t) size.Post Inv-loop μ-loop
+add-i-3 t c = let f = grows t (c .before .before .before .before .before .before .before .before .before .before .before .before .before .before) in omega arith
+
+loop-less-2 : (t : ℕ) → size-lts.Need-loop-less-2 (callees t) (size-at t) size.Post Inv-loop μ-loop
+loop-less-2 t c = let f = grows t (c .before .before .before .before .before .before .before .before .before .before .before .before .before .before) in omega arith
+
+loop-again-2 : (t : ℕ) → size-lts.Need-loop-again-2 (callees t) (size-at t) size.Post Inv-loop μ-loop
+loop-again-2 t c =
+    let known = c .before .before .before .before .before .before .before .before .before .before .before .before .before .before in
+    let l = known .before .before .before .before .before .before .before in
+    let s = l .before .before in
+    let f = grows t known in
+    let left = c .before .before .before .before .before .before .before .before .before .before .before .put-left .ensures in
+    let inner = c .before .before .before .before .before .before .before .size .ensures in
+    let right = c .before .before .put-right .ensures in
+    let long = appended-long left in
+    let longer = appended-long (inner .appended) in
+    let longest = appended-long right in
+    let old = l .loop .inv .2 in
+    let n = left .counted in
+    let m = inner .few in
+    let q = right .counted in
+    let slow = l .loop .inv .3 in (
+      omega arith,
+      refl,
+      omega arith,
+      omega arith,
+      grown-more (l .loop .i) (s .pre .1) (l .loop .inv .4) _ (known .before .before .before .piece-at .ensures) (known .before .k2 .given .1) left inner (c .before .before .before .closer-of .ensures) right,
+    )
+
+same-length : (t : ℕ) → size-lts.Need-same-length (callees t) (size-at t) size.Post Inv-loop μ-loop
+same-length t c = c .before .loop .inv .2
+
+returns : (t : ℕ) → size-lts.Need-returns (callees t) (size-at t) size.Post Inv-loop μ-loop
+returns t c =
+    let l = c .before in
+    let a = l .before .before .args in
+    let p = l .before .before .pre .1 in
+    let g = length-part (a .from) (a .n) (a .work .now) (p .source) in
+    record {
+      appended = filling-all (l .loop .inv .4) (sized-end (part (a .from) (a .n) (a .work .now)) (l .loop .i) (omega arith));
+      few = omega arith;
+    }
+
+pub +size-spec : {M : Type 1} → statement M
++size-spec = close μ-size λ t. size-lts.spec (callees t) (size-at t)
+    size.Post
+    Inv-loop
+    μ-loop
+    (add-end t)
+    (loop-holds t)
+    (add-at t)
+    (sub-piece-at t)
+    (part-piece-at-start t)
+    (part-piece-at-end t)
+    (piece-at-requires t)
+    (enum-known-k t)
+    (copy-requires t)
+    (add-i t)
+    (loop-less t)
+    (loop-again t)
+    (enum-known-k-2 t)
+    (slice-read-b t)
+    (put-left-requires t)
+    (add-inside t)
+    (add-size t)
+    (size-requires t)
+    (closer-of-requires t)
+    (put-right-requires t)
+    (add-i-2 t)
+    (add-i-3 t)
+    (loop-less-2 t)
+    (loop-again-2 t)
+    (same-length t)
+    (returns t)

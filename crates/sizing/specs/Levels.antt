@@ -1,0 +1,228 @@
+-- Sizing without the bound on its steps.
+--     sizes         what is written for the rest of a level, with what was written before, last first
+--     size-step     it is one step, and sizing again
+-- Assumes nothing.
+use mathlib.Core.Path.{_≡_, refl, sym, ap, _∙_}
+use mathlib.Core.Bool.{Bool, true, false, _&&_, _||_, false≢true}
+use mathlib.Core.List.{List, [], _∷_, _++_, reverseAux}
+use mathlib.Core.Option.{Option, none, some}
+use Prim.Native.Nat.{ℕ, zero, suc, pred, _-_, _≤_, _<_}
+use native.Mathlib.Nat.{not-suc-le-zero}
+use native.Mathlib.Omega.{arith}
+use lib.Dec.{eqb}
+use lib.ListN.{length, getD, take, length-take}
+use borrow.Author.Tests.{eqb-true}
+use Rattle.spec.specs.Symbols.{bytes, is, scriptSign, head, past, until, inside, starts, contains}
+use Rattle.spec.specs.Closing.{Side, opens, closes, neither, sideOf, close, matchingDelimiter}
+use Rattle.spec.specs.Finish.{scriptGroup, closing, alreadySized, Group, tall, ifTall, groupOf, groupWith, tallGroup, leftRight, groupStep, scriptStep, sizeStep, sizeWith, sizeDelimitersToContent}
+
+-- ---- what stands behind a closer is shorter, and the closer stands before it
+pub record Behind (c : ℕ) (s r : List ℕ) : Type 0 where
+  pub shorter : length r < length s
+  pub closer : getD s (length s - suc (length r)) 0 ≡ c
+  pub suffix : until s r ++ r ≡ s
+
+module _ (o c : ℕ) where
+  behind-more : (x : ℕ) (s r : List ℕ) → Behind c s r → Behind c (x ∷ s) r
+  behind-more x s r b =
+      let h = b .shorter in
+      let n : suc (length s) - suc (length r) ≡ suc (length s - suc (length r)) = omega arith in
+      let m : suc (length s) - length r ≡ suc (length s - length r) = omega arith in
+      record {
+        shorter = omega arith;
+        closer = ap (λ k. getD (x ∷ s) k 0) n ∙ b .closer;
+        suffix = ap (λ k. take k (x ∷ s) ++ r) m ∙ ap (λ t. x ∷ t) (b .suffix);
+      }
+
+  side-closes : (x : ℕ) → sideOf (eqb x o) (eqb x c) ≡ closes → x ≡ c
+  side-closes x e = go (eqb x o) (eqb x c) refl e
+    where
+      go : (a b : Bool) → eqb x c ≡ b → sideOf a b ≡ closes → x ≡ c
+      go true b f e = let z : _≡_ {A = ℕ} 0 1 = cc in absurd (omega arith)
+      go false true f e = eqb-true x c f
+      go false false f e = let z : _≡_ {A = ℕ} 0 1 = cc in absurd (omega arith)
+
+  pub close-behind : (d : ℕ) (s r : List ℕ) → close o c d s ≡ some r → Behind c s r
+  unfolding close
+  close-behind d [] r e = let z : _≡_ {A = ℕ} 0 1 = cc in absurd (omega arith)
+  close-behind d (x ∷ s) r e = go (sideOf (eqb x o) (eqb x c)) refl d e (λ k f. close-behind k s r f)
+    where
+      go : (side : Side) → sideOf (eqb x o) (eqb x c) ≡ side → (d : ℕ)
+          → _≡_ {A = Option (List ℕ)} (elim side [ opens ↦ close o c (suc d) s | closes ↦ elim d [ zero ↦ some s | suc e ↦ close o c e s ] | neither ↦ close o c d s ]) (some r)
+          → ((k : ℕ) → close o c k s ≡ some r → Behind c s r) → Behind c (x ∷ s) r
+      go opens f d e rest = behind-more x s r (rest (suc d) e)
+      go closes f zero e rest =
+          let same : s ≡ r = cc in let l = ap length same in
+          let n : suc (length s) - suc (length r) ≡ 0 = omega arith in
+          let m : suc (length s) - length r ≡ 1 = omega arith in
+          record {
+            shorter = omega arith;
+            closer = ap (λ k. getD (x ∷ s) k 0) n ∙ side-closes x f;
+            suffix = ap (λ k. take k (x ∷ s) ++ r) m ∙ ap (λ t. x ∷ t) (sym same);
+          }
+      go closes f (suc d) e rest = behind-more x s r (rest d e)
+      go neither f d e rest = behind-more x s r (rest d e)
+
+past-short : (s : List ℕ) → length (past s) ≤ length s
+past-short [] = omega arith
+past-short (x ∷ s) = omega arith
+
+script-short : (x : ℕ) (s r : List ℕ) → scriptGroup x s ≡ some r → length r ≤ length s
+script-short x s r e = go (scriptSign x && is "{" (head s)) e
+  where
+    go : (t : Bool) → _≡_ {A = Option (List ℕ)} (elim t [ true ↦ matchingDelimiter 123 125 s | false ↦ none ]) (some r) → length r ≤ length s
+    go true e = let b = close-behind 123 125 0 (past s) r e .shorter in let p = past-short s in omega arith
+    go false e = let z : _≡_ {A = ℕ} 0 1 = cc in absurd (omega arith)
+
+-- a tall group: its parts are no longer than the text, and its closer stands before what is behind
+pub record Parts (s : List ℕ) (g : Group) : Type 0 where
+  pub content : length (g .content) ≤ length s
+  pub behind : length (g .behind) ≤ length s
+
+module _ (x : ℕ) (s : List ℕ) (g : Group) where
+  if-tall-parts : (c : ℕ) (m r : List ℕ) → length m ≤ length s → length r ≤ length s → ifTall c m r ≡ some g → Parts s g
+  if-tall-parts c m r hm hr e = go (tall m) e
+    where
+      go : (t : Bool) → _≡_ {A = Option Group} (elim t [ true ↦ some (record { closer = c; content = m; behind = r }) | false ↦ none ]) (some g) → Parts s g
+      go true e =
+          let f : _≡_ {A = Group} (record { closer = c; content = m; behind = r }) g = cc in
+          let a = ap (λ (h : Group). length (h .content)) f in let b = ap (λ (h : Group). length (h .behind)) f in
+          record { content = omega arith; behind = omega arith }
+      go false e = let z : _≡_ {A = ℕ} 0 1 = cc in absurd (omega arith)
+
+  group-parts : (o : List ℕ) → tallGroup o x s ≡ some g → Parts s g
+  unfolding tallGroup
+  group-parts o e = go (alreadySized o) e
+    where
+      found : (c : ℕ) (q : Option (List ℕ)) → close x c 0 s ≡ q → groupOf c s q ≡ some g → Parts s g
+      found c none f e = let z : _≡_ {A = ℕ} 0 1 = cc in absurd (omega arith)
+      found c (some r) f e =
+          let b = close-behind x c 0 s r f .shorter in
+          let l = length-take (pred (length s - length r)) s in
+          if-tall-parts c (inside s r) r (omega arith) (omega arith) e
+
+      with-closer : (q : Option ℕ) → groupWith x s q ≡ some g → Parts s g
+      with-closer none e = let z : _≡_ {A = ℕ} 0 1 = cc in absurd (omega arith)
+      with-closer (some c) e = found c (close x c 0 s) refl e
+
+      go : (t : Bool) → _≡_ {A = Option Group} (elim t [ true ↦ none | false ↦ groupWith x s (closing x) ]) (some g) → Parts s g
+      go true e = let z : _≡_ {A = ℕ} 0 1 = cc in absurd (omega arith)
+      go false e = with-closer (closing x) e
+
+-- ---- a step looks at shorter texts alone
+abbrev Sizer : Type 0
+Sizer = List ℕ → List ℕ → List ℕ
+
+step-same : (f g : Sizer) (o : List ℕ) (x : ℕ) (s : List ℕ) → ((p t : List ℕ) → length t ≤ length s → f p t ≡ g p t) → sizeStep f o (x ∷ s) ≡ sizeStep g o (x ∷ s)
+unfolding sizeStep
+step-same f g o x s same = script (scriptGroup x s) refl
+  where
+    group : (q : Option Group) → tallGroup o x s ≡ q → groupStep f o x s q ≡ groupStep g o x s q
+    group none e = ap (λ t. x ∷ t) (same (x ∷ o) s (omega arith))
+    group (some h) e =
+        let p = group-parts x s h o e in
+        let m : f [] (h .content) ≡ g [] (h .content) = same [] (h .content) (p .content) in
+        ap (λ t. leftRight x (h .closer) t ++ f (reverseAux (leftRight x (h .closer) t) o) (h .behind)) m
+        ∙ ap (λ t. leftRight x (h .closer) (g [] (h .content)) ++ t) (same (reverseAux (leftRight x (h .closer) (g [] (h .content))) o) (h .behind) (p .behind))
+
+    script : (q : Option (List ℕ)) → scriptGroup x s ≡ q → scriptStep f o x s q ≡ scriptStep g o x s q
+    script none e = group (tallGroup o x s) refl
+    script (some r) e = ap (λ t. until (x ∷ s) r ++ t) (same (reverseAux (until (x ∷ s) r) o) r (script-short x s r e))
+
+enough : (j k : ℕ) (o s : List ℕ) → length s ≤ j → length s ≤ k → sizeWith j o s ≡ sizeWith k o s
+unfolding sizeWith sizeStep
+enough zero zero o s hj hk = refl
+enough zero (suc k) o [] hj hk = refl
+enough zero (suc k) o (x ∷ s) hj hk = absurd (not-suc-le-zero hj)
+enough (suc j) zero o [] hj hk = refl
+enough (suc j) zero o (x ∷ s) hj hk = absurd (not-suc-le-zero hk)
+enough (suc j) (suc k) o [] hj hk = refl
+enough (suc j) (suc k) o (x ∷ s) hj hk = step-same (sizeWith j) (sizeWith k) o x s (λ p t h. enough j k p t (omega arith) (omega arith))
+
+unfoldable pub sizes : Sizer
+sizes o s = sizeWith (length s) o s
+
+pub sizes-first : (s : List ℕ) → sizes [] s ≡ sizeDelimitersToContent s
+unfolding sizes sizeDelimitersToContent
+sizes-first s = refl
+
+pub sizes-end : (o : List ℕ) → sizes o [] ≡ []
+unfolding sizes sizeWith sizeStep
+sizes-end o = refl
+
+pub size-step : (o : List ℕ) (x : ℕ) (s : List ℕ) → sizes o (x ∷ s) ≡ scriptStep sizes o x s (scriptGroup x s)
+unfolding sizes sizeWith sizeStep
+size-step o x s = step-same (sizeWith (length s)) sizes o x s (λ p t h. enough (length s) (length t) p t h (omega arith))
+
+-- ---- without an opening delimiter nothing is sized
+contains-suffix : (w u r : List ℕ) → contains w (u ++ r) ≡ false → contains w r ≡ false
+contains-suffix w [] r e = e
+contains-suffix w (x ∷ u) r e = contains-suffix w u r (go (starts w (x ∷ (u ++ r))) e)
+  where
+    go : (t : Bool) → t || contains w (u ++ r) ≡ false → contains w (u ++ r) ≡ false
+    go true e = absurd (false≢true (sym e))
+    go false e = e
+
+script-suffix : (x : ℕ) (s r : List ℕ) → scriptGroup x s ≡ some r → until (x ∷ s) r ++ r ≡ x ∷ s
+script-suffix x s r e = go (scriptSign x && is "{" (head s)) e s refl
+  where
+    again : (y : ℕ) (t : List ℕ) → length r ≤ length t → until t r ++ r ≡ t → until (y ∷ t) r ++ r ≡ y ∷ t
+    again y t h e = let m : suc (length t) - length r ≡ suc (length t - length r) = omega arith in ap (λ k. take k (y ∷ t) ++ r) m ∙ ap (λ u. y ∷ u) e
+
+    go : (t : Bool) → _≡_ {A = Option (List ℕ)} (elim t [ true ↦ matchingDelimiter 123 125 s | false ↦ none ]) (some r) → (s′ : List ℕ) → s ≡ s′ → until (x ∷ s) r ++ r ≡ x ∷ s
+    go true e [] q =
+        let b = close-behind 123 125 0 (past s) r e .shorter in let l = ap (λ (t : List ℕ). length (past t)) q in absurd (omega arith)
+    go true e (y ∷ t) q =
+        let b = close-behind 123 125 0 t r (ap (λ (u : List ℕ). close 123 125 0 (past u)) (sym q) ∙ e) in
+        let h = b .shorter in
+        ap (λ u. until (x ∷ u) r ++ r) q ∙ again x (y ∷ t) (omega arith) (again y t (omega arith) (b .suffix)) ∙ ap (λ u. x ∷ u) (sym q)
+    go false e s′ q = let z : _≡_ {A = ℕ} 0 1 = cc in absurd (omega arith)
+
+pub record Plain (s : List ℕ) : Type 0 where
+  pub round : contains (bytes "(") s ≡ false
+  pub square : contains (bytes "[") s ≡ false
+
+plain-head : (a b : Bool) → a || b ≡ false → (a ≡ false) × (b ≡ false)
+plain-head true b e = absurd (false≢true (sym e))
+plain-head false b e = (refl, e)
+
+abbrev Smaller : ℕ → Type 0
+Smaller k = (o s : List ℕ) → Plain s → sizeWith k o s ≡ s
+
+with-plain : (k : ℕ) (o s : List ℕ) → Plain s → sizeWith k o s ≡ s
+unfolding sizeWith sizeStep tallGroup
+with-plain zero o s plain = refl
+with-plain (suc k) o [] plain = refl
+with-plain (suc k) o (x ∷ s) plain = script (scriptGroup x s) refl (with-plain k)
+  where
+    round : (eqb x 40 ≡ false) × (contains (bytes "(") s ≡ false)
+    round = plain-head (eqb x 40) (contains (bytes "(") s) (plain .round)
+
+    square : (eqb x 91 ≡ false) × (contains (bytes "[") s ≡ false)
+    square = plain-head (eqb x 91) (contains (bytes "[") s) (plain .square)
+
+    closing-none : closing x ≡ none
+    closing-none = rw (round .0, square .0, closing)
+
+    no-group : (t : Bool) → _≡_ {A = Option Group} (elim t [ true ↦ none | false ↦ groupWith x s (closing x) ]) none
+    no-group true = refl
+    no-group false = ap (groupWith x s) closing-none
+
+    script : (q : Option (List ℕ)) → scriptGroup x s ≡ q → Smaller k → scriptStep (sizeWith k) o x s q ≡ x ∷ s
+    script none e again =
+        ap (groupStep (sizeWith k) o x s) (no-group (alreadySized o))
+        ∙ ap (λ t. x ∷ t) (again (x ∷ o) s (record { round = round .1; square = square .1 }))
+    script (some r) e again =
+        let suffix = script-suffix x s r e in
+        let p : Plain r = record {
+          round = contains-suffix (bytes "(") (until (x ∷ s) r) r (ap (contains (bytes "(")) suffix ∙ plain .round);
+          square = contains-suffix (bytes "[") (until (x ∷ s) r) r (ap (contains (bytes "[")) suffix ∙ plain .square);
+        } in
+        ap (λ t. until (x ∷ s) r ++ t) (again (reverseAux (until (x ∷ s) r) o) r p) ∙ suffix
+
+pub size-plain : (s : List ℕ) → Plain s → sizeDelimitersToContent s ≡ s
+unfolding sizeDelimitersToContent
+size-plain s plain = with-plain (length s) [] s plain
+
+pub plain-of : (s : List ℕ) → contains (bytes "(") s || contains (bytes "[") s ≡ false → Plain s
+plain-of s e = let p = plain-head (contains (bytes "(") s) (contains (bytes "[") s) e in record { round = p .0; square = p .1 }

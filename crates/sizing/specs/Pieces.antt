@@ -1,0 +1,267 @@
+-- What the code's searches say of a place, and what is written from there on.
+--     sizedAt               what is written from place i of a level on
+--     TallIn, TallAt        the answers of the searches for a tall group
+--     Kept, Grown           the pieces: symbols that are copied, and a tall group
+-- Assumes nothing.
+use mathlib.Core.Path.{_≡_, refl, sym, ap, ap₂, _∙_, subst}
+use mathlib.Core.Bool.{Bool, true, false, cond, _&&_}
+use mathlib.Core.List.{List, [], _∷_, _++_, reverse, reverseAux, reverse-append, reverse-reverse, reverseAux-eq, reverseAux-append, append-assoc, append-nil}
+use mathlib.Core.Option.{Option, none, some}
+use mathlib.Core.Logic.{inl, inr}
+use Prim.Native.Nat.{ℕ, suc, _+_, _-_, _≤_, _<_}
+use native.Mathlib.Omega.{arith}
+use lib.Dec.{eqb}
+use lib.ListN.{length, getD, take, drop, length-take, length-drop, length-reverse, take-append-drop}
+use lib.Seq.{drop-drop, take-add, take-all, take-append-seam, getD-drop}
+use borrow.Author.Tests.{eqb-true, eq-eqb, ne-eqb}
+use Rattle.spec.specs.Symbols.{bytes, is, scriptSign, head, until, inside, starts}
+use Rattle.spec.specs.Closing.{close, matchingDelimiter}
+use Rattle.spec.specs.Finish.{scriptGroup, closing, alreadySized, Group, tall, ifTall, groupOf, groupWith, tallGroup, leftRight, groupStep, scriptStep, sizeDelimitersToContent}
+use Rattle.spec.specs.Laws.Symbols.{drop-step, head-drop, starts-short}
+use Rattle.text.specs.Parts.{part, drop-take}
+use Rattle.text.specs.Search.{Closes, closes-at, closes-within, closes-nothing, reach, inside-drop, until-drop}
+use Rattle.text.specs.Filling.{passed-by, passed-more}
+use Rattle.text.specs.declared.Found.{Found}
+use Rattle.text.specs.declared.Found.the-variants.{At, Nothing}
+use Rattle.sizing.specs.Levels.{sizes, sizes-first, size-step, close-behind}
+use Rattle.sizing.specs.Alike.{Closer, group, sizes-alike}
+use Rattle.sizing.specs.declared.Piece.{Piece}
+use Rattle.sizing.specs.declared.Piece.the-variants.{Keep, Tall}
+
+abbrev pub closerOf : ℕ → ℕ
+closerOf x = cond (is "(" x) 41 93
+
+closer-is : (x : ℕ) → Closer (closerOf x)
+closer-is x = go (is "(" x)
+  where
+    go : (t : Bool) → Closer (cond t 41 93)
+    go true = inl refl
+    go false = inr refl
+
+unfoldable pub sizedAt : List ℕ → ℕ → List ℕ
+sizedAt s i = sizes (passed-by s i) (drop i s)
+
+-- ---- a word that stands right before a place
+starts-eq : (w s : List ℕ) → starts w s ≡ true → take (length w) s ≡ w
+starts-eq [] s e = refl
+starts-eq (k ∷ w) [] e = let z : _≡_ {A = ℕ} 0 1 = cc in absurd (omega arith)
+starts-eq (k ∷ w) (x ∷ s) e = go (starts w s) refl e (starts-eq w s)
+  where
+    go : (t : Bool) → starts w s ≡ t → t && eqb x k ≡ true → (starts w s ≡ true → take (length w) s ≡ w) → x ∷ take (length w) s ≡ k ∷ w
+    go true f e rest = ap₂ (λ y t. y ∷ t) (eqb-true x k e) (rest f)
+    go false f e rest = let z : _≡_ {A = ℕ} 0 1 = cc in absurd (omega arith)
+
+starts-own : (w t : List ℕ) → starts w (w ++ t) ≡ true
+starts-own [] t = refl
+starts-own (k ∷ w) t = ap₂ (λ a b. a && b) (starts-own w t) (eq-eqb k k refl)
+
+-- the last symbols of u are x
+starts-back : (w x v : List ℕ) → length w ≡ length x → starts w x ≡ starts (reverse w) (reverse (v ++ x))
+starts-back w x v e = go (starts w x) refl (starts (reverse w) (reverse (v ++ x))) refl
+  where
+    split : reverse (v ++ x) ≡ reverse x ++ reverse v
+    split = reverse-append v x
+
+    go : (a : Bool) → starts w x ≡ a → (b : Bool) → starts (reverse w) (reverse (v ++ x)) ≡ b → a ≡ b
+    go true f true g = refl
+    go true f false g =
+        let same : x ≡ w = sym (take-all (length w) x (omega arith)) ∙ starts-eq w x f in
+        sym (starts-own (reverse w) (reverse v)) ∙ ap (λ t. starts (reverse w) (reverse t ++ reverse v)) (sym same) ∙ ap (starts (reverse w)) (sym split) ∙ g
+    go false f true g =
+        let lw = length-reverse w in let lx = length-reverse x in
+        let n : length (reverse w) ≡ length (reverse x) = omega arith in
+        let met = starts-eq (reverse w) (reverse (v ++ x)) g in
+        let back : reverse x ≡ reverse w =
+        sym (take-append-seam (reverse x) (reverse v)) ∙ ap (λ k. take k (reverse x ++ reverse v)) (sym n) ∙ ap (take (length (reverse w))) (sym split) ∙ met
+        in
+        let same : x ≡ w = sym (reverse-reverse x) ∙ ap reverse back ∙ reverse-reverse w in
+        sym f ∙ ap (starts w) (same ∙ sym (append-nil w)) ∙ starts-own w []
+    go false f false g = refl
+
+pub before-short : (w s : List ℕ) (i : ℕ) → i < length w → starts (reverse w) (passed-by s i) ≡ false
+before-short w s i h =
+    let lw = length-reverse w in let lt = length-reverse (take i s) in let l = length-take i s in
+    starts-short (reverse w) (passed-by s i) (omega arith)
+
+pub before-is : (w s : List ℕ) (i : ℕ) → length w ≤ i → i ≤ length s → starts w (part (i - length w) (i - (i - length w)) s) ≡ starts (reverse w) (passed-by s i)
+before-is w s i h within =
+    let x = part (i - length w) (i - (i - length w)) s in
+    let lx = length-take (i - (i - length w)) (drop (i - length w) s) in let ld = length-drop (i - length w) s in
+    let cut : take (i - length w) (take i s) ++ x ≡ take i s =
+    ap (λ t. take (i - length w) (take i s) ++ t) (sym (drop-take (i - length w) i s)) ∙ take-append-drop (i - length w) (take i s)
+    in
+    starts-back w x (take (i - length w) (take i s)) (omega arith) ∙ ap (λ t. starts (reverse w) (reverse t)) cut
+
+-- ---- a script group, by the code's test
+module _ (s : List ℕ) (i : ℕ) {a : Bool} {y : ℕ} (sign : a ≡ scriptSign (getD s i 0)) (next : y ≡ getD s (i + 1) 0) where
+  test-is : a && eqb y 123 ≡ scriptSign (getD s i 0) && is "{" (head (drop (i + 1) s))
+  test-is = ap₂ (λ b z. b && is "{" z) sign (next ∙ sym (head-drop s (i + 1)))
+
+  pub script-yes : a && eqb y 123 ≡ true → matchingDelimiter 123 125 (drop (i + 1) s) ≡ scriptGroup (getD s i 0) (drop (i + 1) s)
+  script-yes t = rw (sym test-is ∙ t, scriptGroup)
+
+  pub script-no : a && eqb y 123 ≡ false → none ≡ scriptGroup (getD s i 0) (drop (i + 1) s)
+  script-no t = rw (sym test-is ∙ t, scriptGroup)
+
+-- ---- a tall group behind its opener
+abbrev pub grouped : ℕ → List ℕ → Found → Option Group
+grouped c s (At k) = some (record { closer = c; content = take k s; behind = drop (k + 1) s })
+grouped c s Nothing = none
+
+abbrev pub closesAt : ℕ → List ℕ → Found → Type 0
+closesAt c s (At k) = getD s k 0 ≡ c
+closesAt c s Nothing = Unit {0}
+
+pub record TallIn (s : List ℕ) (o c : ℕ) (r : Found) : Type 0 where
+  pub within : reach r ≤ length s
+  pub group : groupOf c s (close o c 0 s) ≡ grouped c s r
+  pub closes : closesAt c s r
+
+module _ (s : List ℕ) (o c : ℕ) {r : Found} (f : Closes s r (close o c 0 s)) where
+  pub tall-none : r ≡ Nothing → TallIn s o c Nothing
+  tall-none e = record { within = omega arith; group = ap (groupOf c s) (closes-nothing f e); closes = tt }
+
+  module _ {k : ℕ} (e : r ≡ At k) where
+    found : groupOf c s (close o c 0 s) ≡ ifTall c (take k s) (drop (k + 1) s)
+    found = ap (groupOf c s) (closes-at f e) ∙ ap (λ m. ifTall c m (drop (k + 1) s)) (inside-drop s k (closes-within f e))
+
+    pub tall-low : tall (take k s) ≡ false → TallIn s o c Nothing
+    tall-low t = record { within = omega arith; group = found ∙ ap (λ b. elim b [ true ↦ some (record { closer = c; content = take k s; behind = drop (k + 1) s }) | false ↦ none ]) t; closes = tt }
+
+    pub tall-high : tall (take k s) ≡ true → TallIn s o c (At k)
+    tall-high t =
+        let w = closes-within f e in
+        let b = close-behind o c 0 s (drop (k + 1) s) (closes-at f e) in
+        let l = length-drop (k + 1) s in
+        let n : length s - suc (length (drop (k + 1) s)) ≡ k = omega arith in
+        record {
+          within = omega arith;
+          group = found ∙ ap (λ b. elim b [ true ↦ some (record { closer = c; content = take k s; behind = drop (k + 1) s }) | false ↦ none ]) t;
+          closes = ap (λ m. getD s m 0) (sym n) ∙ b .closer;
+        }
+
+-- ---- a tall group at a place
+pub record TallAt (s : List ℕ) (i : ℕ) (r : Found) : Type 0 where
+  pub within : reach r ≤ length (drop (i + 1) s)
+  pub group : tallGroup (passed-by s i) (getD s i 0) (drop (i + 1) s) ≡ grouped (closerOf (getD s i 0)) (drop (i + 1) s) r
+  pub closes : closesAt (closerOf (getD s i 0)) (drop (i + 1) s) r
+
+module _ (s : List ℕ) (i : ℕ) where
+  pub tall-sized : alreadySized (passed-by s i) ≡ true → TallAt s i Nothing
+  unfolding tallGroup
+  tall-sized e = record { within = omega arith; group = rw (e, tallGroup); closes = tt }
+
+  module _ (e : alreadySized (passed-by s i) ≡ false) where
+    open-group : tallGroup (passed-by s i) (getD s i 0) (drop (i + 1) s) ≡ groupWith (getD s i 0) (drop (i + 1) s) (closing (getD s i 0))
+    unfolding tallGroup
+    open-group = rw (e, tallGroup)
+
+    pub tall-here : (x c : ℕ) {r : Found} → getD s i 0 ≡ x → closing x ≡ some c → closerOf x ≡ c → TallIn (drop (i + 1) s) x c r → TallAt s i r
+    tall-here x c {r} same is-some closer t =
+        let q : closerOf (getD s i 0) ≡ c = ap closerOf same ∙ closer in
+        record {
+          within = t .within;
+          group = open-group ∙ ap (λ y. groupWith y (drop (i + 1) s) (closing y)) same ∙ ap (groupWith x (drop (i + 1) s)) is-some
+              ∙ t .group ∙ ap (λ d. grouped d (drop (i + 1) s) r) (sym q);
+          closes = subst (λ d. closesAt d (drop (i + 1) s) r) (sym q) (t .closes);
+        }
+
+    pub tall-other : (getD s i 0 ≡ 40 → ⊥) → (getD s i 0 ≡ 91 → ⊥) → TallAt s i Nothing
+    tall-other a b =
+        let shut : closing (getD s i 0) ≡ none = rw (ne-eqb (getD s i 0) 40 a, ne-eqb (getD s i 0) 91 b, closing) in
+        record {
+          within = omega arith;
+          group = open-group ∙ ap (groupWith (getD s i 0) (drop (i + 1) s)) shut;
+          closes = tt;
+        }
+
+-- ---- the pieces
+pub record Kept (s : List ℕ) (i k : ℕ) : Type 0 where
+  pub some : 0 < k
+  pub fits : i + k ≤ length s
+  pub step : sizedAt s i ≡ take k (drop i s) ++ sizedAt s (i + k)
+
+pub record Grown (s : List ℕ) (i k : ℕ) : Type 0 where
+  pub fits : i + k + 2 ≤ length s
+  pub step : sizedAt s i ≡ leftRight (getD s i 0) (closerOf (getD s i 0)) (sizeDelimitersToContent (take k (drop (i + 1) s))) ++ sizedAt s (i + k + 2)
+
+abbrev pub PieceFor : List ℕ → ℕ → Piece → Type 0
+PieceFor s i (Keep k) = Kept s i k
+PieceFor s i (Tall k) = Grown s i k
+
+passed-many : (s : List ℕ) (i k : ℕ) → reverseAux (take k (drop i s)) (passed-by s i) ≡ passed-by s (i + k)
+passed-many s i k =
+    reverseAux-eq (take k (drop i s)) (passed-by s i) ∙ sym (reverse-append (take i s) (take k (drop i s))) ∙ ap reverse (sym (take-add i k s))
+
+module _ (s : List ℕ) (i : ℕ) (inside : i < length s) where
+  here : sizedAt s i ≡ scriptStep sizes (passed-by s i) (getD s i 0) (drop (i + 1) s) (scriptGroup (getD s i 0) (drop (i + 1) s))
+  unfolding sizedAt
+  here = ap (sizes (passed-by s i)) (drop-step s i inside) ∙ size-step (passed-by s i) (getD s i 0) (drop (i + 1) s)
+
+  module _ {r : Found} (f : Closes (drop (i + 1) s) r (scriptGroup (getD s i 0) (drop (i + 1) s))) where
+    pub script-piece : {j : ℕ} → r ≡ At j → PieceFor s i (Keep (j + 2))
+    unfolding sizedAt
+    script-piece {j} e =
+        let w = closes-within f e in let l = length-drop (i + 1) s in let d = length-drop i s in
+        let x = getD s i 0 in let t = drop (i + 1) s in
+        let n : 1 + (j + 1) ≡ j + 2 = omega arith in
+        let m : i + 1 + (j + 1) ≡ i + (j + 2) = omega arith in
+        let behind : drop (j + 1) t ≡ drop (j + 2) (drop i s) =
+        drop-drop (j + 1) (i + 1) s ∙ ap (λ k. drop k s) m ∙ sym (drop-drop (j + 2) i s)
+        in
+        let block : until (x ∷ t) (drop (j + 1) t) ≡ take (j + 2) (drop i s) =
+        ap₂ until (sym (drop-step s i inside)) behind ∙ until-drop (drop i s) (j + 2) (omega arith)
+        in
+        record {
+          some = omega arith;
+          fits = omega arith;
+          step = here ∙ ap (scriptStep sizes (passed-by s i) x t) (closes-at f e)
+              ∙ ap (λ u. u ++ sizes (reverseAux u (passed-by s i)) (drop (j + 1) t)) block
+              ∙ ap₂ (λ p q. take (j + 2) (drop i s) ++ sizes p q) (passed-many s i (j + 2)) (behind ∙ drop-drop (j + 2) i s);
+        }
+
+    module _ (e : r ≡ Nothing) where
+      no-script : sizedAt s i ≡ groupStep sizes (passed-by s i) (getD s i 0) (drop (i + 1) s) (tallGroup (passed-by s i) (getD s i 0) (drop (i + 1) s))
+      no-script = here ∙ ap (scriptStep sizes (passed-by s i) (getD s i 0) (drop (i + 1) s)) (closes-nothing f e)
+
+      pub symbol-piece : {q : Found} → TallAt s i q → q ≡ Nothing → PieceFor s i (Keep 1)
+      unfolding sizedAt
+      symbol-piece t n =
+          let g = t .group ∙ ap (grouped (closerOf (getD s i 0)) (drop (i + 1) s)) n in
+          record {
+            some = omega arith;
+            fits = omega arith;
+            step = no-script ∙ ap (groupStep sizes (passed-by s i) (getD s i 0) (drop (i + 1) s)) g
+                ∙ ap (λ p. getD s i 0 ∷ sizes p (drop (i + 1) s)) (sym (passed-more s i inside))
+                ∙ ap (λ u. take 1 u ++ sizedAt s (i + 1)) (sym (drop-step s i inside));
+          }
+
+      pub tall-piece : {q : Found} {k : ℕ} → TallAt s i q → q ≡ At k → PieceFor s i (Tall k)
+      unfolding sizedAt
+      tall-piece {k = k} t n =
+          let x = getD s i 0 in let b = drop (i + 1) s in let c = closerOf x in let o = passed-by s i in
+          let w = t .within in let q = ap reach n in let l = length-drop (i + 1) s in
+          let g = t .group ∙ ap (grouped c b) n in
+          let closes : getD b k 0 ≡ c = subst (closesAt c b) n (t .closes) in
+          let m = leftRight x c (sizes [] (take k b)) in
+          let e1 : i + 1 + (k + 1) ≡ i + k + 2 = omega arith in
+          let e2 : i + k + 1 + 1 ≡ i + k + 2 = omega arith in
+          let e3 : i + 1 + k ≡ i + k + 1 = omega arith in
+          let behind : drop (k + 1) b ≡ drop (i + k + 2) s = drop-drop (k + 1) (i + 1) s ∙ ap (λ j. drop j s) e1 in
+          let last : passed-by s (i + k + 2) ≡ c ∷ passed-by s (i + k + 1) =
+          ap (passed-by s) (sym e2) ∙ passed-more s (i + k + 1) (omega arith)
+          ∙ ap (λ y. y ∷ passed-by s (i + k + 1)) (ap (λ j. getD s j 0) (sym e3) ∙ sym (getD-drop (i + 1) s k 0) ∙ closes)
+          in
+          let m₀ = bytes "\\left" ++ (x ∷ (sizes [] (take k b) ++ bytes "\\right")) in
+          let ends : reverseAux m o ≡ c ∷ reverseAux m₀ o =
+          ap (λ u. reverseAux u o) (ap (λ u. bytes "\\left" ++ (x ∷ u)) (sym (append-assoc (sizes [] (take k b)) (bytes "\\right") (c ∷ []))))
+          ∙ reverseAux-append m₀ (c ∷ []) o
+          in
+          record {
+            fits = omega arith;
+            step = no-script ∙ ap (groupStep sizes o x b) g
+                ∙ ap (λ p. m ++ sizes p (drop (k + 1) b)) ends
+                ∙ ap (λ u. m ++ u) (sizes-alike (drop (k + 1) b) (group {o = reverseAux m₀ o} {p = passed-by s (i + k + 1)} c (closer-is x)))
+                ∙ ap₂ (λ p u. m ++ sizes p u) (sym last) behind
+                ∙ ap (λ u. leftRight x c u ++ sizedAt s (i + k + 2)) (sizes-first (take k b));
+          }

@@ -1,0 +1,76 @@
+-- The turns of the sizing loop: what a piece says has been written. Assumes nothing.
+--     Sized     what the function ensures
+use mathlib.Core.Path.{_≡_, sym, ap, ap₂, _∙_, subst}
+use mathlib.Core.List.{List, [], _∷_, _++_}
+use Prim.Native.Nat.{ℕ, _+_, _-_, _*_, _≤_}
+use native.Mathlib.Omega.{arith}
+use lib.ListN.{length, getD, take, drop, drop-of-length-le}
+use Rattle.spec.specs.Symbols.{bytes}
+use Rattle.spec.specs.Finish.{leftRight, sizeDelimitersToContent}
+use Rattle.text.specs.Parts.{part, length-part, sub-part}
+use Rattle.text.specs.Writer.{Regions, Appended, Apart, apart-part, appended-more, appended-part}
+use Rattle.text.specs.Filling.{Filling, filling-more, filling-source, filling-symbol, passed-by}
+use Rattle.sizing.specs.Levels.{sizes, sizes-first, sizes-end}
+use Rattle.sizing.specs.Pieces.{sizedAt, closerOf, PieceFor, Kept, Grown}
+use Rattle.sizing.specs.declared.Piece.{Piece}
+use Rattle.sizing.specs.declared.Piece.the-variants.{Keep, Tall}
+
+pub record Sized (w w′ : List ℕ) (from n to count r : ℕ) : Type 0 where
+  pub appended : Appended w w′ to 8192 count r (sizeDelimitersToContent (part from n w))
+  pub few : r ≤ count + 7 * n
+
+pub sized-first : (s : List ℕ) → sizedAt s 0 ≡ sizeDelimitersToContent s
+unfolding sizedAt
+sized-first s = sizes-first s
+
+pub sized-end : (s : List ℕ) (i : ℕ) → length s ≤ i → sizedAt s i ≡ []
+unfolding sizedAt
+sized-end s i h = ap (sizes (passed-by s i)) (drop-of-length-le s h) ∙ sizes-end (passed-by s i)
+
+module _
+    {w₀ w : List ℕ} {from n to count₀ count : ℕ} (i : ℕ) {whole : List ℕ}
+    (regions : Regions w₀ from n to 8192 count₀) (filling : Filling w₀ w to 8192 count₀ count (sizedAt (part from n w₀) i) whole)
+    (r : Piece) (piece : PieceFor (part from (from + n - from) w) i r)
+  where
+    source : PieceFor (part from n w₀) i r
+    source = subst (λ s. PieceFor s i r) (filling-source filling from n (regions .apart)) piece
+
+    symbols : (j m : ℕ) → j + m ≤ n → part (from + j) m w ≡ take m (drop j (part from n w₀))
+    symbols j m h = sub-part from n j m w h ∙ ap (λ s. take m (drop j s)) (appended-part (filling .appended) from n (regions .apart))
+
+    module _ {k : ℕ} (e : r ≡ Keep k) where
+      pub kept-piece : Kept (part from n w₀) i k
+      kept-piece = subst (PieceFor (part from n w₀) i) e source
+
+      pub kept-fits : i + k ≤ n
+      kept-fits = let l = length-part from n w₀ (regions .source) in let f = kept-piece .fits in omega arith
+
+      pub kept-more : {w′ : List ℕ} {count′ : ℕ} → Appended w w′ to 8192 count count′ (part (from + i) k w) → Filling w₀ w′ to 8192 count₀ count′ (sizedAt (part from n w₀) (i + k)) whole
+      kept-more a = filling-more filling a (kept-piece .step ∙ ap (λ t. t ++ sizedAt (part from n w₀) (i + k)) (sym (symbols i k kept-fits)))
+
+    module _ {k : ℕ} (e : r ≡ Tall k) where
+      grown-piece : Grown (part from n w₀) i k
+      grown-piece = subst (PieceFor (part from n w₀) i) e source
+
+      pub grown-fits : i + k + 2 ≤ n
+      grown-fits = let l = length-part from n w₀ (regions .source) in let f = grown-piece .fits in omega arith
+
+      pub inner-apart : Apart (from + (i + 1)) k to 8192
+      inner-apart = apart-part from n to 8192 (i + 1) k (regions .apart) (let f = grown-fits in omega arith)
+
+      pub grown-more :
+          {w₁ w₂ w₃ : List ℕ} {a b count′ : ℕ} {c : ℕ}
+          → Appended w w₁ to 8192 count a (bytes "\\left" ++ getD w (from + i) 0 ∷ [])
+          → Sized w₁ w₂ (from + (i + 1)) k to a b
+          → c ≡ closerOf (getD w (from + i) 0)
+          → Appended w₂ w₃ to 8192 b count′ (bytes "\\right" ++ c ∷ [])
+          → Filling w₀ w₃ to 8192 count₀ count′ (sizedAt (part from n w₀) (i + k + 2)) whole
+      grown-more {c = c} left inner closer right =
+          let f = grown-fits in
+          let x = getD (part from n w₀) i 0 in
+          let s : getD w (from + i) 0 ≡ x = filling-symbol filling from n (regions .apart) i (omega arith) in
+          let t : part (from + (i + 1)) k _ ≡ take k (drop (i + 1) (part from n w₀)) = appended-part left (from + (i + 1)) k inner-apart ∙ symbols (i + 1) k (omega arith) in
+          filling-more filling (appended-more (appended-more left (inner .appended)) right)
+          (grown-piece .step
+          ∙ sym (ap (λ m. leftRight (getD w (from + i) 0) c (sizeDelimitersToContent m) ++ sizedAt (part from n w₀) (i + k + 2)) t
+          ∙ ap₂ (λ y d. leftRight y d (sizeDelimitersToContent (take k (drop (i + 1) (part from n w₀)))) ++ sizedAt (part from n w₀) (i + k + 2)) s (closer ∙ ap closerOf s)))

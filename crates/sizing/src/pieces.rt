@@ -1,0 +1,114 @@
+// What stands at a place of a level: a script group, a tall group, or a symbol.
+use super::Piece;
+use text::Found;
+ghost use Prim.Native.Nat.{_+_, _≤_, _<_};
+ghost use mathlib.Core.Path.{_≡_};
+ghost use mathlib.Core.Bool.{_||_};
+ghost use mathlib.Core.List.{reverse};
+ghost use lib.ListN.{length, getD, drop};
+ghost use Rattle.spec.specs.Symbols.{bytes, starts, contains, scriptSign};
+ghost use Rattle.spec.specs.Finish.{tall, scriptGroup, alreadySized};
+ghost use Rattle.text.specs.Search.{Closes};
+ghost use Rattle.text.specs.Filling.{passed-by};
+ghost use Rattle.sizing.specs.Pieces.{TallIn, TallAt, PieceFor};
+
+fn is_tall(s: &[u8]) -> bool
+    ensures { λ r. ⌜ r ≡ tall (now (s .entry)) ⌝ }
+{
+    text::contains(s, b"\\frac")
+        | (text::contains(s, b"\\sqrt")
+            | (text::contains(s, b"\\binom")
+                | (text::contains(s, b"\\sum") | text::contains(s, b"\\int"))))
+}
+
+// Whether a delimiter that can be sized occurs.
+pub fn has_delimiter(s: &[u8]) -> bool
+    ensures { λ r. ⌜ r ≡ contains (bytes "(") (now (s .entry)) || contains (bytes "[") (now (s .entry)) ⌝ }
+{
+    text::contains(s, b"(") | text::contains(s, b"[")
+}
+
+fn is_script(b: u8) -> bool
+    ensures { λ r. ⌜ r ≡ scriptSign b ⌝ }
+{
+    (b == b'_') | (b == b'^')
+}
+
+// Whether the word stands right before a place.
+fn stands_before(s: &[u8], i: usize, word: &[u8]) -> bool
+    requires { ⌜ i ≤ length (now s) ⌝ }
+    ensures { λ r. ⌜ r ≡ starts (reverse (now (word .entry))) (passed-by (now (s .entry)) i) ⌝ }
+{
+    if i < word.len() {
+        return false;
+    }
+    let start = i - word.len();
+    text::starts_with(&s[start..i], word)
+}
+
+// Whether the delimiter at a place has its size already.
+fn is_sized(s: &[u8], i: usize) -> bool
+    requires { ⌜ i ≤ length (now s) ⌝ }
+    ensures { λ r. ⌜ r ≡ alreadySized (passed-by (now (s .entry)) i) ⌝ }
+{
+    stands_before(s, i, b"\\left") | stands_before(s, i, b"\\right")
+}
+
+// The closer of the script group that begins at a place, counted from behind its sign.
+fn script_at(s: &[u8], i: usize) -> Found
+    requires { ⌜ (i < length (now s)) × (length (now s) ≤ 16384) ⌝ }
+    ensures { λ r. ⌜ Closes (drop (i + 1) (now (s .entry))) r (scriptGroup (getD (now (s .entry)) i 0) (drop (i + 1) (now (s .entry)))) ⌝ }
+{
+    let next = i + 1;
+    if is_script(s[i]) & (text::symbol(s, next) == b'{') {
+        return closing::matching_delimiter(&s[next..], b'{', b'}');
+    }
+    Found::Nothing
+}
+
+// The closer of a bracket that stands before the text, if what lies between is tall.
+fn tall_inside(s: &[u8], opener: u8, closer: u8) -> Found
+    requires { ⌜ length (now s) ≤ 16384 ⌝ }
+    ensures { λ r. ⌜ TallIn (now (s .entry)) opener closer r ⌝ }
+{
+    let Found::At(k) = closing::find_closer(s, opener, closer) else {
+        return Found::Nothing;
+    };
+    if is_tall(&s[0..k]) {
+        return Found::At(k);
+    }
+    Found::Nothing
+}
+
+// The closer of the tall group that begins at a place, counted from behind its opener.
+fn tall_at(s: &[u8], i: usize) -> Found
+    requires { ⌜ (i < length (now s)) × (length (now s) ≤ 16384) ⌝ }
+    ensures { λ r. ⌜ TallAt (now (s .entry)) i r ⌝ }
+{
+    let next = i + 1;
+    if is_sized(s, i) {
+        return Found::Nothing;
+    }
+    let b = s[i];
+    if b == b'(' {
+        return tall_inside(&s[next..], b'(', b')');
+    }
+    if b == b'[' {
+        return tall_inside(&s[next..], b'[', b']');
+    }
+    Found::Nothing
+}
+
+// What is done at a place: a script group comes before a tall one.
+pub fn piece_at(s: &[u8], i: usize) -> Piece
+    requires { ⌜ (i < length (now s)) × (length (now s) ≤ 16384) ⌝ }
+    ensures { λ r. ⌜ PieceFor (now (s .entry)) i r ⌝ }
+{
+    let Found::At(j) = script_at(s, i) else {
+        let Found::At(k) = tall_at(s, i) else {
+            return Piece::Keep(1);
+        };
+        return Piece::Tall(k);
+    };
+    Piece::Keep(j + 2)
+}
