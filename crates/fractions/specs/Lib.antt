@@ -1,0 +1,6 @@
+-- What the contracts of `fractions` cite, and the laws of a round and of the rounds.
+pub mod Slash
+pub mod Writing
+pub mod Turn
+pub mod Same
+pub mod Settle

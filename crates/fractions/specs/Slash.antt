@@ -1,0 +1,149 @@
+-- What becomes of a slash, from the answers of the searches.
+--     Slashed     what the code says of the slash at i is what the definition `slash` says, whatever has been written so far
+--     Ordered     the operands lie on either side of it
+-- Assumes nothing.
+use mathlib.Core.Path.{_≡_, sym, ap, _∙_, subst}
+use mathlib.Core.Bool.{Bool, true, false}
+use mathlib.Core.List.{List, reverse, reverseAux, reverse-append, reverse-reverse}
+use mathlib.Core.Option.{Option, none, some}
+use Prim.Native.Nat.{ℕ, _+_, _-_, _≤_, _<_}
+use Prim.Native.Char.{code}
+use native.Mathlib.Omega.{arith}
+use lib.ListN.{length, take, drop, length-take, length-drop, length-reverse}
+use lib.Seq.{take-at}
+use Rattle.spec.specs.Symbols.{trimStart, until}
+use Rattle.spec.specs.Fractions.{
+  Step,
+  frac,
+  copied,
+  stripOuterParens,
+  isInsideSubscriptContext,
+  findFractionPartBefore,
+  findFractionPartAfter,
+  barred,
+  withDenominator,
+  withNumerator,
+  slash,
+}
+use Rattle.text.specs.Parts.{part, drop-take}
+use Rattle.text.specs.Trim.{spanned}
+use Rattle.closing.specs.Backward.{before, length-before}
+use Rattle.operands.specs.Ends.{take-drop}
+use Rattle.operands.specs.Places.{Ahead, Behind, until-ahead}
+use Rattle.fractions.specs.declared.Operands.{Operands}
+use Rattle.fractions.specs.declared.Slash.{Slash}
+use Rattle.fractions.specs.declared.Slash.the-variants.{Converts, Stays, Barred}
+
+-- the fraction of two operands of a text
+abbrev pub fraction : Operands → List ℕ → List ℕ
+fraction f s = frac (stripOuterParens (spanned (f .num) s)) (stripOuterParens (spanned (f .den) s))
+
+-- with o written so far
+abbrev pub converted : List ℕ → ℕ → List ℕ → Operands → Step
+converted s i o f = record { skip = f .den .end - (i + 1); written = reverseAux (fraction f s) (drop (i - f .num .start) o) }
+
+abbrev pub decided : List ℕ → ℕ → List ℕ → Slash → Option Step
+decided s i o (Converts f) = some (converted s i o f)
+decided s i o Stays = some (copied (code "/") o)
+decided s i o Barred = none
+
+pub record Ordered (n i : ℕ) (f : Operands) : Type 0 where
+  pub numerator : f .num .start ≤ f .num .end
+  pub before-slash : f .num .end ≤ i
+  pub behind-slash : i + 1 ≤ f .den .start
+  pub denominator : f .den .start ≤ f .den .end
+  pub within : f .den .end ≤ n
+
+abbrev pub Fits : ℕ → ℕ → Slash → Type 0
+Fits n i (Converts f) = Ordered n i f
+Fits n i Stays = Unit {0}
+Fits n i Barred = Unit {0}
+
+pub record Slashed (s : List ℕ) (i : ℕ) (r : Slash) : Type 0 where
+  pub decides : (o : List ℕ) → slash (before s i) o (drop (i + 1) s) ≡ decided s i o r
+  pub fits : Fits (length s) i r
+
+-- ---- the symbols between two places, seen from behind
+reverse-part : (b : ℕ) (l : List ℕ) → b ≤ length l → reverse (take (length l - b) (reverse l)) ≡ drop b l
+reverse-part b l h =
+    let n = length-drop b l in let m = length-reverse (drop b l) in
+    let e : length (reverse (drop b l)) ≡ length l - b = omega arith in
+    ap (λ k. reverse (take (length l - b) (reverse k))) (take-drop b l)
+    ∙ ap (λ k. reverse (take (length l - b) k)) (reverse-append (take b l) (drop b l))
+    ∙ ap reverse (take-at (reverse (drop b l)) (reverse (take b l)) (length l - b) e)
+    ∙ reverse-reverse (drop b l)
+
+until-behind : (s : List ℕ) (b e : ℕ) → b ≤ e → e ≤ length s → reverse (until (before s e) (before s b)) ≡ part b (e - b) s
+until-behind s b e h w =
+    let n = length-before s e w in let m = length-before s b (omega arith) in let k = length-take e s in
+    let f : length (before s e) - length (before s b) ≡ length (take e s) - b = omega arith in
+    ap (λ j. reverse (take j (before s e))) f ∙ reverse-part b (take e s) (omega arith) ∙ drop-take b e s
+
+abbrev made : List ℕ → ℕ → List ℕ → List ℕ → ℕ → Step
+made o k n d m = record { skip = k; written = reverseAux (frac (stripOuterParens n) (stripOuterParens d)) (drop m o) }
+
+made-same : (o : List ℕ) {k k′ m m′ : ℕ} {n n′ d d′ : List ℕ} → k ≡ k′ → n ≡ n′ → d ≡ d′ → m ≡ m′ → made o k n d m ≡ made o k′ n′ d′ m′
+made-same o {k} {k′} {m} {m′} {n} {n′} {d} {d′} a b e f = ap (λ x. made o x n d m) a ∙ ap (λ x. made o k′ x d m) b ∙ ap (λ x. made o k′ n′ x m) e ∙ ap (made o k′ n′ d′) f
+
+-- ---- the searches one after the other
+module _ (s : List ℕ) (i : ℕ) where
+  pub slash-inside : isInsideSubscriptContext 0 (before s i) ≡ true → Slashed s i Stays
+  unfolding slash
+  slash-inside e = record { decides = λ o. rw (e, slash); fits = tt }
+
+  module _ (outside : isInsideSubscriptContext 0 (before s i) ≡ false) {b : ℕ} (over : Behind s i b (trimStart (before s i))) where
+    searched : (o : List ℕ) {q : Option (List ℕ)} → findFractionPartBefore (before s b) ≡ q → slash (before s i) o (drop (i + 1) s) ≡ withNumerator (before s i) o (drop (i + 1) s) q
+    unfolding slash
+    searched o e = rw (outside, slash) (ap (withNumerator (before s i) o (drop (i + 1) s)) (ap findFractionPartBefore (sym (over .left)) ∙ e))
+
+    pub slash-bare : findFractionPartBefore (before s b) ≡ none → Slashed s i Stays
+    slash-bare e = record { decides = λ o. searched o e; fits = tt }
+
+    module _
+        {a q : ℕ} (under : Ahead s (i + 1) a (trimStart (drop (i + 1) s))) (start : q ≤ b)
+        (num : findFractionPartBefore (before s b) ≡ some (before s q))
+      where
+        numerated : (o : List ℕ) {t : Bool} → barred (drop a s) ≡ t
+            → slash (before s i) o (drop (i + 1) s)
+            ≡ elim t [ true ↦ none | false ↦ some (withDenominator (before s i) o (drop (i + 1) s) (before s q) (findFractionPartAfter (trimStart (drop (i + 1) s)))) ]
+        numerated o e =
+            searched o num
+            ∙ ap (λ t. elim t [ true ↦ none | false ↦ some (withDenominator (before s i) o (drop (i + 1) s) (before s q) (findFractionPartAfter (trimStart (drop (i + 1) s)))) ])
+            (ap barred (sym (under .left)) ∙ e)
+
+        pub slash-barred : barred (drop a s) ≡ true → Slashed s i Barred
+        slash-barred e = record { decides = λ o. numerated o e; fits = tt }
+
+        module _ (free : barred (drop a s) ≡ false) where
+          divided : (o : List ℕ) {d : Option (List ℕ)} → findFractionPartAfter (drop a s) ≡ d
+              → slash (before s i) o (drop (i + 1) s) ≡ some (withDenominator (before s i) o (drop (i + 1) s) (before s q) d)
+          divided o e = numerated o free ∙ ap (λ d. some (withDenominator (before s i) o (drop (i + 1) s) (before s q) d)) (ap findFractionPartAfter (sym (under .left)) ∙ e)
+
+          pub slash-alone : findFractionPartAfter (drop a s) ≡ none → Slashed s i Stays
+          slash-alone e = record { decides = λ o. divided o e; fits = tt }
+
+          pub slash-converts :
+              {r : ℕ} → i < length s → a ≤ r → r ≤ length s → findFractionPartAfter (drop a s) ≡ some (drop r s)
+              → Slashed s i (Converts (record { num = record { start = q; end = b }; den = record { start = a; end = r } }))
+          slash-converts {r} inside end within e =
+              record {
+                decides = λ o. divided o e ∙ ap some (same o);
+                fits = record { numerator = start; before-slash = over .to; behind-slash = under .from; denominator = end; within = within };
+              }
+            where
+              same : (o : List ℕ)
+                  → made o (length (drop (i + 1) s) - length (drop r s)) (reverse (until (trimStart (before s i)) (before s q))) (until (trimStart (drop (i + 1) s)) (drop r s)) (length (before s i) - length (before s q))
+                  ≡ made o (r - (i + 1)) (part q (b - q) s) (part a (r - a) s) (i - q)
+              same o =
+                  let f = under .from in let t = over .to in
+                  let n = length-drop (i + 1) s in let m = length-drop r s in
+                  let k = length-before s i (omega arith) in let l = length-before s q (omega arith) in
+                  let skip : length (drop (i + 1) s) - length (drop r s) ≡ r - (i + 1) = omega arith in
+                  let drops : length (before s i) - length (before s q) ≡ i - q = omega arith in
+                  made-same o skip
+                  (ap (λ x. reverse (until x (before s q))) (sym (over .left)) ∙ until-behind s q b start (omega arith))
+                  (ap (λ x. until x (drop r s)) (sym (under .left)) ∙ until-ahead s a r end within)
+                  drops
+
+pub slashed-ordered : {s : List ℕ} {i : ℕ} {r : Slash} {f : Operands} → Slashed s i r → r ≡ Converts f → Ordered (length s) i f
+slashed-ordered {s} {i} d e = subst (Fits (length s) i) e (d .fits)

@@ -1,0 +1,45 @@
+// convert_regular_fractions: one round. The numerator is found in the text as the round began, and as many symbols as lie from
+// its start to the slash are dropped from the end of what was written.
+use super::Outcome;
+use super::Slash;
+use super::slashes::slash_at;
+use super::writing::put_converted;
+use text::CAP;
+ghost use Prim.Native.Nat.{_≤_};
+ghost use Rattle.text.specs.Parts.{part};
+ghost use Rattle.text.specs.Writer.{Regions};
+ghost use Rattle.fractions.specs.Turn.{Rounded};
+
+// Writes the `n` symbols at `from` to `to`, with their fractions.
+pub fn convert_regular_fractions(work: &mut [u8], from: usize, n: usize, to: usize) -> Outcome
+    requires { ⌜ Regions (now work) from n to 8192 0 ⌝ }
+    requires { ⌜ n ≤ 8192 ⌝ }
+    ensures { λ r. ⌜ Rounded (part from n (now (work .entry))) (now (work .entry)) (now (work .exit)) to r ⌝ }
+{
+    let end = from + n;
+    let mut count = 0;
+    let mut i = 0;
+    while i < n {
+        let b = work[from + i];
+        if b != b'/' {
+            count = text::put(work, to, CAP, count, b);
+            i += 1;
+            continue;
+        }
+        let slash = slash_at(&work[from..end], i);
+        match slash {
+            Slash::Converts(f) => {
+                count = put_converted(work, from, n, to, count, i, f);
+                i = f.den.end;
+            }
+            Slash::Stays => {
+                count = text::put(work, to, CAP, count, b);
+                i += 1;
+            }
+            Slash::Barred => {
+                return Outcome::Barred;
+            }
+        }
+    }
+    Outcome::Done(count)
+}

@@ -1,0 +1,93 @@
+// convert_fractions: rounds until nothing changes. The text changes sides with each round.
+use super::Outcome;
+use super::Round;
+use super::regular::convert_regular_fractions;
+use super::same::is_same;
+use text::CAP;
+use text::Found;
+use text::Progress;
+use text::Refusal;
+ghost use Rattle.spec.specs.Fractions.{convertFractions, settle as settled};
+ghost use Rattle.text.specs.Stage.{Ready, Staged};
+ghost use Rattle.text.specs.declared.Progress.the-variants.{Text};
+ghost use Rattle.fractions.specs.Settle.{Stepped};
+
+// So many rounds may change the text.
+const ROUNDS: usize = 64;
+
+// A round from one region to the other.
+fn next_round(work: &mut [u8], from: usize, n: usize) -> Round
+    requires { ⌜ Ready (now work) (Text from n) ⌝ }
+    ensures { λ r. ⌜ Stepped (now (work .entry)) (now (work .exit)) from n r ⌝ }
+{
+    let to = CAP - from;
+    let Outcome::Done(count) = convert_regular_fractions(work, from, n, to) else {
+        return Round::Barred;
+    };
+    let all = work.len();
+    if is_same(&work[0..all], from, n, to, count) {
+        return Round::Unchanged;
+    }
+    Round::Changed(count)
+}
+
+// The round after the last that may change the text: it only says whether it would.
+fn last_round(work: &mut [u8], from: usize, n: usize) -> Progress
+    requires { ⌜ Ready (now work) (Text from n) ⌝ }
+    ensures { λ r. ⌜ Staged (now (work .entry)) (now (work .exit)) (Text from n) r (settled 0) ⌝ }
+{
+    let round = next_round(work, from, n);
+    match round {
+        Round::Unchanged => {
+            return Progress::Text(from, n);
+        }
+        Round::Changed(count) => {
+            return Progress::Refused(Refusal::Unsettled);
+        }
+        Round::Barred => {
+            return Progress::Refused(Refusal::Unsettled);
+        }
+    }
+}
+
+fn settle(work: &mut [u8], from: usize, n: usize) -> Progress
+    requires { ⌜ Ready (now work) (Text from n) ⌝ }
+    ensures { λ r. ⌜ Staged (now (work .entry)) (now (work .exit)) (Text from n) r convertFractions ⌝ }
+{
+    let mut at = from;
+    let mut len = n;
+    for k in 0..ROUNDS {
+        let round = next_round(work, at, len);
+        match round {
+            Round::Unchanged => {
+                return Progress::Text(at, len);
+            }
+            Round::Barred => {
+                return Progress::Refused(Refusal::BarredSolidus);
+            }
+            Round::Changed(count) => {
+                if CAP < count {
+                    return Progress::Refused(Refusal::Overgrown);
+                }
+                at = CAP - at;
+                len = count;
+            }
+        }
+    }
+    last_round(work, at, len)
+}
+
+// The stage. A text with no slash is left as it is.
+pub fn convert_fractions(work: &mut [u8], progress: Progress) -> Progress
+    requires { ⌜ Ready (now work) progress ⌝ }
+    ensures { λ r. ⌜ Staged (now (work .entry)) (now (work .exit)) progress r convertFractions ⌝ }
+{
+    let Progress::Text(from, n) = progress else {
+        return progress;
+    };
+    let end = from + n;
+    let Found::At(k) = text::find(&work[from..end], b"/") else {
+        return progress;
+    };
+    settle(work, from, n)
+}
