@@ -1,0 +1,146 @@
+-- What is held out of a text without marks is well made. Assumes nothing.
+--     hold-texts-made, hold-both-made    in definitions, and in words
+use mathlib.Core.Path.{_≡_, refl, sym, ap, _∙_}
+use mathlib.Core.Bool.{Bool, true, false, cond}
+use mathlib.Core.List.{List, [], _∷_, _++_}
+use Prim.Native.Nat.{ℕ, suc, _+_, _≤_}
+use native.Mathlib.Omega.{arith}
+use lib.Dec.{eqb}
+use lib.ListN.{length, drop}
+use borrow.Author.Tests.{eq-eqb, eqb-true}
+use Rattle.spec.specs.Symbols.{bytes, starts, textMark, romanMark}
+use Rattle.spec.specs.Held.{Taken, takeOut, holdTexts, holdBoth}
+use Rattle.held.specs.Marks.{hasMark, count, joined, or-false, and-true, has-mark-append}
+use Rattle.held.specs.Remains.{backslash}
+use Rattle.held.specs.WellMade.{Every, Plain, Enclosing, WellMade, count-append, unmarked-count, count-unmarked}
+use Rattle.held.specs.TakeOut.{Turns, ended, unclosed, passing, holding, turns}
+
+-- a symbol more on both sides
+more-left : (t : Bool) (a b c : ℕ) → a + b ≡ c → cond t (suc a) a + b ≡ cond t (suc c) c
+more-left true a b c e = omega arith
+more-left false a b c e = e
+
+more-most : (t : Bool) (a c : ℕ) → a ≤ c → a ≤ cond t (suc c) c
+more-most true a c e = omega arith
+more-most false a c e = e
+
+module _ (name : List ℕ) (mark : ℕ) where
+  -- another symbol is as often in what is left and in the blocks, taken together, as in the text
+  pub taken-other :
+      (c : ℕ) → eqb mark c ≡ false → {s : List ℕ} {t : Taken} → Turns name mark s t → count c (t .left) + count c (joined (t .blocks)) ≡ count c s
+  unfolding count joined
+  taken-other c other ended = refl
+  taken-other c other (unclosed s e f) = omega arith
+  taken-other c other (passing x s t e next) = more-left (eqb x c) _ _ _ (taken-other c other next)
+  taken-other c other (holding x block behind t e f next) =
+      let more = taken-other c other next in
+      let l = count-append c (x ∷ block) behind in
+      let m = count-append c (x ∷ block) (joined (t .blocks)) in
+      rw other (omega arith)
+
+  -- the mark stands in what is left once more for each block
+  pub taken-own : {s : List ℕ} {t : Taken} → Turns name mark s t → count mark (t .left) + count mark (joined (t .blocks)) ≡ count mark s + length (t .blocks)
+  unfolding count joined
+  taken-own ended = refl
+  taken-own (unclosed s e f) = refl
+  taken-own (passing x s t e next) = go (eqb x mark) (taken-own next)
+    where
+      go : (u : Bool) → count mark (t .left) + count mark (joined (t .blocks)) ≡ count mark s + length (t .blocks)
+          → cond u (suc (count mark (t .left))) (count mark (t .left)) + count mark (joined (t .blocks)) ≡ cond u (suc (count mark s)) (count mark s) + length (t .blocks)
+      go true e = omega arith
+      go false e = e
+  taken-own (holding x block behind t e f next) =
+      let more = taken-own next in
+      let l = count-append mark (x ∷ block) behind in
+      let m = count-append mark (x ∷ block) (joined (t .blocks)) in
+      rw (eq-eqb mark mark refl) (omega arith)
+
+  -- blocks hold what the text holds
+  pub taken-within : (c : ℕ) → {s : List ℕ} {t : Taken} → Turns name mark s t → count c (joined (t .blocks)) ≤ count c s
+  unfolding count joined
+  taken-within c ended = omega arith
+  taken-within c (unclosed s e f) = omega arith
+  taken-within c (passing x s t e next) = more-most (eqb x c) _ _ (taken-within c next)
+  taken-within c (holding x block behind t e f next) =
+      let more = taken-within c next in
+      let l = count-append c (x ∷ block) behind in
+      let m = count-append c (x ∷ block) (joined (t .blocks)) in
+      omega arith
+
+-- ---- blocks
+abbrev Begins : List ℕ → Type 0
+Begins b = b ≡ backslash ∷ drop 1 b
+
+taken-begins : (name : List ℕ) (mark : ℕ) → {s : List ℕ} {t : Taken} → Turns (backslash ∷ name) mark s t → Every Begins (t .blocks)
+unfolding Every
+taken-begins name mark ended = tt
+taken-begins name mark (unclosed s e f) = tt
+taken-begins name mark (passing x s t e next) = taken-begins name mark next
+taken-begins name mark (holding x block behind t e f next) =
+    (ap (λ y. y ∷ block) (eqb-true x backslash (and-true (starts name (block ++ behind)) (eqb x backslash) e .1)), taken-begins name mark next)
+
+every-plain : (bs : List (List ℕ)) → Every Begins bs → hasMark (joined bs) ≡ false → Every Plain bs
+unfolding Every joined
+every-plain [] h e = tt
+every-plain (b ∷ bs) h e =
+    let both = or-false (hasMark b) (hasMark (joined bs)) (sym (has-mark-append b (joined bs)) ∙ e) in
+    (record { begins = h .0; free = both .0 }, every-plain bs (h .1) (both .1))
+
+every-enclosing : (bs : List (List ℕ)) → Every Begins bs → count romanMark (joined bs) ≡ 0 → Every Enclosing bs
+unfolding Every joined
+every-enclosing [] h e = tt
+every-enclosing (b ∷ bs) h e =
+    let l = count-append romanMark b (joined bs) in
+    (record { begins = h .0; no-roman = omega arith }, every-enclosing bs (h .1) (omega arith))
+
+-- ---- the two hold-outs
+module _ (s : List ℕ) (free : hasMark s ≡ false) where
+  abbrev texts : Taken
+  texts = takeOut (bytes "\\text{") textMark 0 s
+
+  abbrev theTurns : Turns (bytes "\\text{") textMark s texts
+  theTurns = turns (bytes "\\text{") textMark s
+
+  text-left : count textMark (texts .left) ≡ length (texts .blocks)
+  text-left =
+      let none = unmarked-count s free .0 in
+      let own = taken-own (bytes "\\text{") textMark theTurns in
+      let most = taken-within (bytes "\\text{") textMark textMark theTurns in
+      omega arith
+
+  roman-left : count romanMark (texts .left) ≡ 0
+  roman-left = let none = unmarked-count s free .1 in let other = taken-other (bytes "\\text{") textMark romanMark refl theTurns in omega arith
+
+  texts-plain : Every Plain (texts .blocks)
+  texts-plain =
+      let none = unmarked-count s free in
+      let no-text = none .0 in
+      let no-roman = none .1 in
+      let text = taken-within (bytes "\\text{") textMark textMark theTurns in
+      let roman = taken-within (bytes "\\text{") textMark romanMark theTurns in
+      every-plain (texts .blocks) (taken-begins (bytes "text{") textMark theTurns) (count-unmarked (joined (texts .blocks)) (omega arith) (omega arith))
+
+  pub hold-texts-made : WellMade (holdTexts s)
+  unfolding holdTexts Every joined count
+  hold-texts-made = let e = text-left in record { texts = texts-plain; romans = tt; text-marks = omega arith; roman-marks = roman-left }
+
+  abbrev romans : Taken
+  romans = takeOut (bytes "\\mathrm{") romanMark 0 (texts .left)
+
+  abbrev romanTurns : Turns (bytes "\\mathrm{") romanMark (texts .left) romans
+  romanTurns = turns (bytes "\\mathrm{") romanMark (texts .left)
+
+  pub hold-both-made : WellMade (holdBoth s)
+  unfolding holdBoth holdTexts
+  hold-both-made =
+      let none = roman-left in
+      let all = text-left in
+      let own = taken-own (bytes "\\mathrm{") romanMark romanTurns in
+      let most = taken-within (bytes "\\mathrm{") romanMark romanMark romanTurns in
+      let other = taken-other (bytes "\\mathrm{") romanMark textMark refl romanTurns in
+      record {
+        texts = texts-plain;
+        romans = every-enclosing (romans .blocks) (taken-begins (bytes "mathrm{") romanMark romanTurns) (omega arith);
+        text-marks = omega arith;
+        roman-marks = omega arith;
+      }

@@ -1,0 +1,96 @@
+-- Putting back without placeholders. What the Rust does with numbered placeholders comes to a test, and to every block at its own place.
+-- Assumes nothing.
+--     put-back-lost    the put-back of what is well made: number 6 where a block is lost, and the text with its blocks in full else
+use mathlib.Core.Path.{_≡_, refl, sym, ap, ap₂, _∙_, subst}
+use mathlib.Core.Bool.{Bool, true, false, cond, _||_}
+use mathlib.Core.List.{List, _++_}
+use Prim.Native.Nat.{ℕ, _+_}
+use native.Mathlib.Nat.{zero-add}
+use native.Mathlib.Omega.{arith}
+use lib.ListN.{length, length-append}
+use Rattle.spec.specs.Result.{Result, passed, refused}
+use Rattle.spec.specs.Held.{Held, placeholder, numbered, numberedRomans, rustPutBack, putBack, inFull}
+use Rattle.held.specs.Marks.{hasMark, order, fill, numbersBelow, occurs, blockAt, joined, or-false, has-mark-append}
+use Rattle.held.specs.Broken.{marked}
+use Rattle.held.specs.Losing.{lostBelow, nestedBelow}
+use Rattle.held.specs.Agree.{after, restored-after, Agrees}
+use Rattle.held.specs.Stored.{Fair, put-back-agrees}
+use Rattle.held.specs.Noted.{noted, lost-noted, nested-joined}
+use Rattle.held.specs.WellMade.{WellMade, lost, joined-append, plain-joined, marked-range}
+use Rattle.held.specs.Numbering.{numbers, numbered-fill, numbers-below, roman-occurs, numbers-plain, AllFair, fair-length, fair-at, fair-texts, fair-romans}
+use Rattle.held.specs.InFull.{in-full-fill}
+
+module _ {h : Held} (made : WellMade h) where
+  abbrev first : ℕ
+  first = length (h .texts)
+
+  abbrev blocks : List (List ℕ)
+  blocks = h .texts ++ h .romans
+
+  abbrev rustBlocks : List (List ℕ)
+  rustBlocks = h .texts ++ numberedRomans (h .romans) 0 (h .text)
+
+  abbrev ks : List ℕ
+  ks = numbers (h .romans) 0 first (h .text)
+
+  all-fair : AllFair 0 blocks rustBlocks
+  all-fair =
+      let c = made .text-marks in
+      fair-texts 0 (h .texts) (h .romans) (numberedRomans (h .romans) 0 (h .text)) (made .texts)
+      (fair-romans (h .text) (h .romans) (0 + first) 0 (made .romans) (made .roman-marks) (omega arith))
+
+  fair : (k : ℕ) → Fair k (blockAt blocks k) (blockAt rustBlocks k)
+  fair k = subst (λ n. Fair n (blockAt blocks k) (blockAt rustBlocks k)) (zero-add k) (fair-at 0 blocks rustBlocks all-fair k)
+
+  below : numbersBelow (length blocks) ks (h .text) ≡ true
+  below =
+      let l = length-append (h .texts) (h .romans) in let c = made .text-marks in let d = made .roman-marks in
+      numbers-below (length blocks) (h .text) (h .romans) 0 first (omega arith) (omega arith)
+
+  outer : (k : ℕ) → hasMark (blockAt blocks k) ≡ true → occurs k ks (h .text) ≡ true
+  outer k e =
+      let range = marked-range (h .texts) (h .romans) (made .texts) k e in
+      let low = range .0 in let high = range .1 in let d = made .roman-marks in
+      roman-occurs k (h .text) (h .romans) 0 first low (omega arith)
+
+  -- ---- the rounds
+  rust : rustPutBack h ≡ after (blockAt rustBlocks) (length blocks) (fill placeholder ks (h .text))
+  unfolding rustPutBack
+  rust =
+      restored-after rustBlocks (numbered (h .romans) 0 first (h .text))
+      ∙ ap₂ (λ n s. after (blockAt rustBlocks) n s) (fair-length 0 blocks rustBlocks all-fair) (numbered-fill (h .text) (h .romans) 0 first)
+
+  nested-same : nestedBelow (blockAt blocks) (length blocks) ≡ hasMark (joined (h .romans))
+  nested-same =
+      nested-joined blocks
+      ∙ ap hasMark (joined-append (h .texts) (h .romans))
+      ∙ has-mark-append (joined (h .texts)) (joined (h .romans))
+      ∙ ap (λ t. t || hasMark (joined (h .romans))) (plain-joined (h .texts) (made .texts))
+
+  -- where a block holds a mark, the numbers don't matter
+  lost-same : nestedBelow (blockAt blocks) (length blocks) || lostBelow (length blocks) ks (h .text) ≡ lost h
+  unfolding lost
+  lost-same = ap₂ (λ x y. x || y) nested-same (lost-noted (length blocks) (h .text) ks below) ∙ go (hasMark (joined (h .romans))) refl
+    where
+      go : (t : Bool) → hasMark (joined (h .romans)) ≡ t → t || noted ks (h .text) ≡ t || noted (order 0 first (h .text)) (h .text)
+      go true e = refl
+      go false e = ap (λ l. noted l (h .text)) (numbers-plain (h .text) (h .romans) 0 first e)
+
+  pub rust-agrees : Agrees (lost h) (rustPutBack h) (inFull h)
+  unfolding lost
+  rust-agrees =
+      let a = put-back-agrees (blockAt blocks) (blockAt rustBlocks) fair (length blocks) ks (h .text) outer below in
+      record { remains = ap marked rust ∙ a .remains ∙ lost-same; same = λ e. rust ∙ a .same (lost-same ∙ e) ∙ own e }
+    where
+      own : lost h ≡ false → fill (blockAt blocks) ks (h .text) ≡ inFull h
+      own e =
+          let none = or-false (hasMark (joined (h .romans))) (noted (order 0 first (h .text)) (h .text)) e .0 in
+          ap (λ l. fill (blockAt blocks) l (h .text)) (numbers-plain (h .text) (h .romans) 0 first none) ∙ sym (in-full-fill made none)
+
+  pub put-back-lost : putBack h ≡ cond (lost h) (refused 6) (passed (inFull h))
+  unfolding putBack
+  put-back-lost = ap (λ t. cond t (refused 6) (passed (rustPutBack h))) (rust-agrees .remains) ∙ go (lost h) refl
+    where
+      go : (t : Bool) → lost h ≡ t → cond {A = Result (List ℕ)} t (refused 6) (passed (rustPutBack h)) ≡ cond t (refused 6) (passed (inFull h))
+      go true e = refl
+      go false e = ap passed (rust-agrees .same e)

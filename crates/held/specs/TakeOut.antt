@@ -1,0 +1,156 @@
+-- Holding out the blocks of one name, turn by turn. Assumes nothing.
+--     close-behind    what stands behind a closer is an end of the text
+--     Turns           the four kinds of turns of `takeOut`, as a rule on which to go by induction
+--     turns           they are what `takeOut` does
+use mathlib.Core.Path.{_≡_, refl, sym, ap, ap₂, _∙_, subst}
+use mathlib.Core.Bool.{Bool, true, false, false≢true}
+use mathlib.Core.List.{List, [], _∷_, _++_, append-assoc}
+use mathlib.Core.Option.{Option, none, some}
+use Prim.Native.Nat.{ℕ, zero, suc, _-_, _≤_}
+use Prim.Native.Char.{code}
+use native.Mathlib.Nat.{not-suc-le-zero}
+use native.Mathlib.Omega.{arith}
+use lib.ListN.{length, take, drop, length-append}
+use lib.Seq.{take-append-seam, drop-append-seam}
+use Rattle.spec.specs.Symbols.{until, starts}
+use Rattle.spec.specs.Closing.{Side, opens, closes, neither, side, close, findMatchingBrace}
+use Rattle.spec.specs.Held.{Taken, leaving, taking, takeOut}
+use Rattle.held.specs.Replacing.{starts-split}
+
+-- ---- what is behind a closer
+abbrev pub theText : Option (List ℕ) → List ℕ
+theText none = []
+theText (some s) = s
+
+abbrev pub isSome : Option (List ℕ) → Bool
+isSome none = false
+isSome (some s) = true
+
+none-some : {A : Type 0} {s : List ℕ} → none ≡ some s → A
+none-some e = absurd (false≢true (ap isSome e))
+
+-- r is an end of s, and not the whole
+pub record Behind (s r : List ℕ) : Type 0 where
+  pub head : ℕ
+  pub front : List ℕ
+  pub split : s ≡ head ∷ (front ++ r)
+
+behind-more : (x : ℕ) {s r : List ℕ} → Behind s r → Behind (x ∷ s) r
+behind-more x b = record { head = x; front = b .head ∷ b .front; split = ap (λ l. x ∷ l) (b .split) }
+
+pub close-behind : (o c : ℕ) (s : List ℕ) (d : ℕ) (r : List ℕ) → close o c d s ≡ some r → Behind s r
+unfolding close
+close-behind o c [] d r e = none-some e
+close-behind o c (x ∷ s) d r e = go (side o c x) d e (close-behind o c s)
+  where
+    go : (z : Side) (d : ℕ)
+        → elim z as (λ _. Option (List ℕ)) [ opens ↦ close o c (suc d) s | closes ↦ elim d as (λ _. Option (List ℕ)) [ zero ↦ some s | suc e ↦ close o c e s ] | neither ↦ close o c d s ] ≡ some r
+        → ((d : ℕ) (r : List ℕ) → close o c d s ≡ some r → Behind s r) → Behind (x ∷ s) r
+    go opens d e more = behind-more x (more (suc d) r e)
+    go closes zero e more = record { head = x; front = []; split = ap (λ l. x ∷ theText l) e }
+    go closes (suc d) e more = behind-more x (more d r e)
+    go neither d e more = behind-more x (more d r e)
+
+pub until-front : (u r : List ℕ) → until (u ++ r) r ≡ u
+until-front u r =
+    let l = length-append u r in
+    let e : length (u ++ r) - length r ≡ length u = omega arith in
+    ap (λ n. take n (u ++ r)) e ∙ take-append-seam u r
+
+-- ---- the turns
+module _ (name : List ℕ) (mark : ℕ) where
+  pub data Turns : List ℕ → Taken → Type 0 where
+    ended : Turns [] (record { left = []; blocks = [] })
+    unclosed : (s : List ℕ) → starts name s ≡ true → findMatchingBrace (drop (length name) s) ≡ none → Turns s (record { left = s; blocks = [] })
+    passing : (x : ℕ) (s : List ℕ) (t : Taken) → starts name (x ∷ s) ≡ false → Turns s t → Turns (x ∷ s) (leaving x t)
+    holding :
+        (x : ℕ) (block behind : List ℕ) (t : Taken) → starts name (x ∷ (block ++ behind)) ≡ true
+        → findMatchingBrace (drop (length name) (x ∷ (block ++ behind))) ≡ some behind → Turns behind t → Turns (x ∷ (block ++ behind)) (taking mark (x ∷ block) t)
+
+  pub skipped : (skip : ℕ) (s : List ℕ) → takeOut name mark skip s ≡ takeOut name mark 0 (drop skip s)
+  unfolding takeOut
+  skipped zero s = refl
+  skipped (suc skip) [] = refl
+  skipped (suc skip) (b ∷ s) = skipped skip s
+
+  pub turn-passing : (x : ℕ) (s : List ℕ) → starts name (x ∷ s) ≡ false → takeOut name mark 0 (x ∷ s) ≡ leaving x (takeOut name mark 0 s)
+  unfolding takeOut
+  turn-passing x s e =
+      ap
+      (λ t. elim t as (λ _. Taken) [
+        | true ↦ elim (findMatchingBrace (drop (length name) (x ∷ s))) as (λ _. Taken) [
+          | none ↦ record { left = x ∷ s; blocks = [] }
+          | some behind ↦ taking mark (until (x ∷ s) behind) (takeOut name mark (length (until s behind)) s)
+        ]
+        | false ↦ leaving x (takeOut name mark 0 s)
+      ])
+      e
+
+  at-name : (x : ℕ) (s : List ℕ) (f : Option (List ℕ)) → starts name (x ∷ s) ≡ true → findMatchingBrace (drop (length name) (x ∷ s)) ≡ f
+      → takeOut name mark 0 (x ∷ s)
+      ≡ elim f as (λ _. Taken) [
+        | none ↦ record { left = x ∷ s; blocks = [] }
+        | some behind ↦ taking mark (until (x ∷ s) behind) (takeOut name mark (length (until s behind)) s)
+      ]
+  unfolding takeOut
+  at-name x s f e c =
+      ap₂
+      (λ (t : Bool) (f : Option (List ℕ)). elim t as (λ _. Taken) [
+        | true ↦ elim f as (λ _. Taken) [
+          | none ↦ record { left = x ∷ s; blocks = [] }
+          | some behind ↦ taking mark (until (x ∷ s) behind) (takeOut name mark (length (until s behind)) s)
+        ]
+        | false ↦ leaving x (takeOut name mark 0 s)
+      ])
+      e c
+
+  pub turn-unclosed : (x : ℕ) (s : List ℕ) → starts name (x ∷ s) ≡ true → findMatchingBrace (drop (length name) (x ∷ s)) ≡ none
+      → takeOut name mark 0 (x ∷ s) ≡ record { left = x ∷ s; blocks = [] }
+  turn-unclosed x s e c = at-name x s none e c
+
+  pub turn-holding :
+      (x : ℕ) (block behind : List ℕ) → starts name (x ∷ (block ++ behind)) ≡ true → findMatchingBrace (drop (length name) (x ∷ (block ++ behind))) ≡ some behind
+      → takeOut name mark 0 (x ∷ (block ++ behind)) ≡ taking mark (x ∷ block) (takeOut name mark 0 behind)
+  turn-holding x block behind e c =
+      at-name x (block ++ behind) (some behind) e c
+      ∙ ap₂ (taking mark) (until-front (x ∷ block) behind)
+      (skipped (length (until (block ++ behind) behind)) (block ++ behind)
+      ∙ ap (λ u. takeOut name mark 0 (drop (length u) (block ++ behind))) (until-front block behind)
+      ∙ ap (takeOut name mark 0) (drop-append-seam block behind))
+
+  -- a closed block begins where the name does
+  closed-block : (x : ℕ) (s behind : List ℕ) → starts name (x ∷ s) ≡ true → findMatchingBrace (drop (length name) (x ∷ s)) ≡ some behind → (front : List ℕ) × (s ≡ front ++ behind)
+  closed-block x s behind e c =
+      go name (starts-split name (x ∷ s) e ∙ ap (λ l. name ++ l) (b .split))
+    where
+      b : Behind (drop (length name) (x ∷ s)) behind
+      b = close-behind (code "{") (code "}") (drop (length name) (x ∷ s)) 0 behind c
+
+      go : (p : List ℕ) → x ∷ s ≡ p ++ (b .head ∷ (b .front ++ behind)) → (front : List ℕ) × (s ≡ front ++ behind)
+      go [] w = (b .front, ap (drop 1) w)
+      go (y ∷ p) w = (p ++ (b .head ∷ b .front), ap (drop 1) w ∙ sym (append-assoc p (b .head ∷ b .front) behind))
+
+  turns-within : (n : ℕ) (s : List ℕ) → length s ≤ n → Turns s (takeOut name mark 0 s)
+  unfolding takeOut
+  turns-within zero [] h = ended
+  turns-within (suc n) [] h = ended
+  turns-within zero (x ∷ s) h = absurd (not-suc-le-zero h)
+  turns-within (suc n) (x ∷ s) h = go (starts name (x ∷ s)) refl (findMatchingBrace (drop (length name) (x ∷ s))) refl (turns-within n)
+    where
+      go : (t : Bool) → starts name (x ∷ s) ≡ t → (f : Option (List ℕ)) → findMatchingBrace (drop (length name) (x ∷ s)) ≡ f
+          → ((s : List ℕ) → length s ≤ n → Turns s (takeOut name mark 0 s)) → Turns (x ∷ s) (takeOut name mark 0 (x ∷ s))
+      go false e f c more = subst (Turns (x ∷ s)) (sym (turn-passing x s e)) (passing x s (takeOut name mark 0 s) e (more s (omega arith)))
+      go true e none c more = subst (Turns (x ∷ s)) (sym (turn-unclosed x s e c)) (unclosed (x ∷ s) e c)
+      go true e (some behind) c more =
+          let b = closed-block x s behind e c in
+          let l = ap length (b .1) in let m = length-append (b .0) behind in
+          subst (λ s. Turns (x ∷ s) (takeOut name mark 0 (x ∷ s))) (sym (b .1)) (held (b .0) (b .1) (more behind (omega arith)))
+        where
+          held : (block : List ℕ) → s ≡ block ++ behind → Turns behind (takeOut name mark 0 behind) → Turns (x ∷ (block ++ behind)) (takeOut name mark 0 (x ∷ (block ++ behind)))
+          held block w next =
+              let e′ = sym (ap (λ l. starts name (x ∷ l)) w) ∙ e in
+              let c′ = sym (ap (λ l. findMatchingBrace (drop (length name) (x ∷ l))) w) ∙ c in
+              subst (Turns (x ∷ (block ++ behind))) (sym (turn-holding x block behind e′ c′)) (holding x block behind (takeOut name mark 0 behind) e′ c′ next)
+
+  pub turns : (s : List ℕ) → Turns s (takeOut name mark 0 s)
+  turns s = turns-within (length s) s (omega arith)

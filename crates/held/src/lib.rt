@@ -1,0 +1,54 @@
+// Held blocks: `\text{..}` and `\mathrm{..}` are taken out of a text, each leaves a mark, and they go back to their own places.
+//
+// A text with marks lies in one of the two regions for texts. Behind them, in the work buffer, stand the blocks, one behind the
+// other, and then their places.
+mod back;
+mod hold;
+mod losing;
+mod whole;
+
+pub use back::full_len;
+pub use back::put_back;
+pub use hold::hold_out;
+pub use losing::has_mark;
+pub use losing::lost;
+pub use whole::hold_both;
+pub use whole::hold_texts;
+pub use whole::restore;
+ghost use mathlib.Core.Path.{_≡_};
+ghost use Prim.Native.Nat.{_<_};
+
+// The marks of `\text` and of `\mathrm` blocks.
+pub const TEXT: u8 = 2;
+
+pub const ROMAN: u8 = 3;
+
+// Where the blocks stand, and their places: a place is a block's start and its length, two bytes each. A `\mathrm` block is
+// stored with the marks in it, so blocks can take more bytes than the text has symbols.
+const BLOCKS_AT: usize = 16_384;
+
+const BLOCKS_ROOM: usize = 11_264;
+
+const PLACES_AT: usize = 27_648;
+
+const PLACES_ROOM: usize = 5_120;
+
+// A text with marks: its length, and how many bytes its blocks and their places fill.
+pub struct Marked {
+    pub len: usize,
+    pub used: usize,
+    pub filed: usize,
+}
+
+// The same, and how many of its blocks are `\text` blocks.
+pub struct Both {
+    pub marked: Marked,
+    pub texts: usize,
+}
+
+// A byte as a number.
+fn wide(b: u8) -> usize
+    ensures { λ r. ⌜ (r ≡ b) × (r < 256) ⌝ }
+{
+    b as usize
+}

@@ -1,0 +1,60 @@
+// The definition table's bytes: reading a record, number 3's check, and the order in which definitions are applied.
+mod check;
+mod order;
+
+pub use check::is_faulty;
+pub use order::Cursor;
+pub use order::Step;
+ghost use mathlib.Core.Path.{_≡_};
+ghost use Rattle.table.specs.Reading.{Reads};
+
+// Number 3's limits.
+pub const MOST_BYTES: usize = 32_768;
+
+pub const MOST_RECORDS: usize = 64;
+
+// A record's places in the table: the name lies from `name` to `latex`, the LaTeX from there to `next`, where the next record begins.
+pub struct Record {
+    pub name: usize,
+    pub latex: usize,
+    pub next: usize,
+}
+
+// What stands at a place of the table.
+pub enum Reading {
+    Whole(Record),
+    End,
+    PastEnd,
+}
+
+fn wide(b: u8) -> usize
+    ensures { λ r. ⌜ r ≡ b ⌝ }
+{
+    b as usize
+}
+
+// The record at a place. Its header is 16 bits, most significant first: 6 of the name's length, 10 of the LaTeX's.
+pub fn record_at(table: &[u8], at: usize) -> Reading
+    ensures { λ r. ⌜ Reads (now (table .entry)) at r ⌝ }
+{
+    if table.len() <= at {
+        return Reading::End;
+    }
+    if table.len() - at < 2 {
+        return Reading::PastEnd;
+    }
+    let high = wide(table[at]);
+    let low = wide(table[at + 1]);
+    let name_length = high / 4;
+    let latex_length = (high % 4) * 256 + low;
+    let name = at + 2;
+    if table.len() - name < name_length + latex_length {
+        return Reading::PastEnd;
+    }
+    let latex = name + name_length;
+    Reading::Whole(Record {
+        name,
+        latex,
+        next: latex + latex_length,
+    })
+}
