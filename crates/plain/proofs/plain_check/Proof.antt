@@ -1,0 +1,37 @@
+-- `plain::plain_check` meets its contract: by what the sum reader answers, with the fuel that the definition names. Assumes nothing.
+use borrow.Author.Needs.{needs}
+use Rattle.plain.specs.Agreement.{checked, counts-long, counts-nothing, counts-whole, counts-part}
+use Rattle.plain.proofs.plain_check.Statement.{statement}
+use Rattle.plain.proofs.plain_check.Tie as tie
+
+returns : tie.Need-returns
+returns c = checked (counts-long (c .before .before .args .s .now) (c .if1 .taken))
+
+sum-requires : tie.Need-sum-requires
+sum-requires c κs = search needs
+
+enum-known-p : tie.Need-enum-known-p
+enum-known-p c = search needs
+
+enum-told : tie.Need-enum-told
+enum-told c = search needs
+
+returns-2 : tie.Need-returns-2
+returns-2 c =
+    let read = c .before .before in
+    checked (counts-nothing (rw (c .enum-told .given .1) at (read .sum .ensures)) (read .before .if1 .left))
+
+returns-3 : tie.Need-returns-3
+returns-3 c =
+    let p = c .before .before .before in
+    let read = p .before .before in
+    checked (counts-whole (rw (p .p .given .1) at (read .sum .ensures)) (read .before .if1 .left) (c .if2 .taken))
+
+returns-4 : tie.Need-returns-4
+returns-4 c =
+    let p = c .before .before .before in
+    let read = p .before .before in
+    checked (counts-part (rw (p .p .given .1) at (read .sum .ensures)) (read .before .if1 .left) (c .if2 .left))
+
+pub plain-check-spec : {M : Type 1} → statement M
+plain-check-spec = tie.close (tie.spec returns sum-requires enum-known-p enum-told returns-2 returns-3 returns-4)

@@ -1,0 +1,193 @@
+-- The steps of each reader, as laws: from what its callees answered follows what it answers. A law names each stretch of the text by a
+-- variable and an equation, so that a proof hands over what the code ensures as it stands. Completeness goes by the same laws.
+-- Assumes nothing.
+use mathlib.Core.Path.{_≡_, refl, ap, _∙_}
+use mathlib.Core.Bool.{Bool, true, false}
+use mathlib.Core.List.{List}
+use Prim.Native.Nat.{ℕ, zero, suc, _+_, _*_, _-_, _≤_, _<_, _^_}
+use Prim.Native.Char.{code}
+use native.Mathlib.Omega.{arith}
+use lib.Dec.{eqb}
+use lib.ListN.{length, drop, length-drop}
+use borrow.Author.Tests.{eqb-true, eq-eqb, ne-eqb, lt-ltb, le-ltb}
+use Rattle.spec.specs.Symbols.{alnum}
+use Rattle.plain.specs.declared.Part.{Part}
+use Rattle.plain.specs.declared.Read.{Read}
+use Rattle.plain.specs.declared.Read.the-variants.{Found, Nothing}
+use Rattle.plain.specs.Tokens.{at, signNext, factorNext, atomLength}
+use Rattle.plain.specs.Parts.{Fit, Within, either, over, barred, wrap, asScript, leaf, joined, divided, scripted, closed, grouped}
+use Rattle.plain.specs.Readers.{Answers, readSum, readProduct, readFactor, readOperand, readScripts, readScript}
+use Rattle.plain.specs.Rooms.{in-text, sign-room, factor-room, byte-room, word-room, atom-room}
+
+-- a reader has found p at the front of xs, and ys is what is left
+pub record Front (read : ℕ → List ℕ → Read) (rank : ℕ) (xs : List ℕ) (p : Part) (ys : List ℕ) : Type 0 where
+  pub answers : Answers read rank xs (Found p)
+  pub behind : ys ≡ drop (p .used) xs
+
+-- xs is p, a gap, and zs
+pub record Split (xs : List ℕ) (p : Part) (gap : ℕ) (zs : List ℕ) : Type 0 where
+  pub size : p .used + gap + length zs ≡ length xs
+  pub atoms : p .atoms ≤ p .used
+
+pub fit : {xs zs : List ℕ} {r : Read} {p : Part} {gap : ℕ} → length xs < 2 ^ 64 → Split xs p gap zs → Within r zs → Fit p gap r
+fit l s v = omega arith
+
+module _ {xs zs : List ℕ} {p : Part} where
+  joined-within : {gap : ℕ} (r : Read) → Split xs p gap zs → Within r zs → Within (joined p gap r) xs
+  joined-within Nothing s v = omega arith
+  joined-within (Found q) s v = omega arith
+
+  divided-within : (r : Read) → Split xs p 1 zs → Within r zs → Within (divided p r) xs
+  divided-within Nothing s v = omega arith
+  divided-within (Found q) s v = by (barred p q)
+    where
+      by : (b : Bool) → Within (either b (λ _. Nothing) (λ _. Found (over p q))) xs
+      by true = omega arith
+      by false = omega arith
+
+  scripted-within : (r : Read) → Split xs p 0 zs → Within r zs → Within (scripted p r) xs
+  scripted-within Nothing s v = omega arith
+  scripted-within (Found q) s v = omega arith
+
+-- the fuel of a step is one more than that of its callees
+answers : {read : ℕ → List ℕ → Read} {rank : ℕ} {xs : List ℕ} {r : Read} → ((k : ℕ) → 5 * length xs + rank ≤ k → r ≡ read (suc k) xs) → Within r xs → Answers read rank xs r
+answers {read} {rank} {xs} {r} f w = record { exact = go; within = w }
+  where
+    go : (k : ℕ) → 5 * length xs + rank < k → r ≡ read k xs
+    go zero h = absurd (omega arith)
+    go (suc k) h = f k (omega arith)
+
+module _ {read : ℕ → List ℕ → Read} {rank : ℕ} {xs : List ℕ} {p : Part} {ys : List ℕ} (front : Front read rank xs p ys) where
+  split : (gap : ℕ) {zs : List ℕ} → gap ≤ length ys → zs ≡ drop gap ys → Split xs p gap zs
+  split gap {zs} g f = let w = front .answers .within in
+      omega (arith, w, ap length (front .behind) ∙ length-drop (p .used) xs, ap length f ∙ length-drop gap ys)
+
+  found : (k : ℕ) → 5 * length xs + rank < k → Found p ≡ read k xs
+  found = front .answers .exact
+
+-- a sum
+pub sum-nothing : {xs : List ℕ} → Answers readProduct 3 xs Nothing → Answers readSum 4 xs Nothing
+unfolding readSum
+sum-nothing a = answers (λ k h. rw (← a .exact k (omega arith))) (omega arith)
+
+module _ {xs ys : List ℕ} {p : Part} (front : Front readProduct 3 xs p ys) where
+  pub sum-done : signNext ys ≡ false → Answers readSum 4 xs (Found p)
+  unfolding readSum
+  sum-done t = answers (λ k h. rw (← found front k (omega arith), ← front .behind, t)) (front .answers .within)
+
+  pub sum-split : {zs : List ℕ} → signNext ys ≡ true → zs ≡ drop 3 ys → Split xs p 3 zs
+  sum-split t f = split front 3 (sign-room ys t) f
+
+  pub sum-more : {zs : List ℕ} {r : Read} → signNext ys ≡ true → zs ≡ drop 3 ys → Answers readSum 4 zs r → Answers readSum 4 xs (joined p 3 r)
+  unfolding readSum
+  sum-more {zs} {r} t f next = let s = sum-split t f in
+      answers (λ k h. rw (← found front k (omega arith), ← front .behind, t, ← f, ← next .exact k (omega arith))) (joined-within r s (next .within))
+
+-- a product
+pub product-nothing : {xs : List ℕ} → Answers readFactor 2 xs Nothing → Answers readProduct 3 xs Nothing
+unfolding readProduct
+product-nothing a = answers (λ k h. rw (← a .exact k (omega arith))) (omega arith)
+
+module _ {xs ys : List ℕ} {p : Part} (front : Front readFactor 2 xs p ys) where
+  pub product-done : factorNext ys ≡ false → Answers readProduct 3 xs (Found p)
+  unfolding readProduct
+  product-done t = answers (λ k h. rw (← found front k (omega arith), ← front .behind, t)) (front .answers .within)
+
+  pub product-split : {zs : List ℕ} → factorNext ys ≡ true → zs ≡ drop 1 ys → Split xs p 1 zs
+  product-split t f = split front 1 (factor-room ys t) f
+
+  pub product-more : {zs : List ℕ} {r : Read} → factorNext ys ≡ true → zs ≡ drop 1 ys → Answers readProduct 3 zs r → Answers readProduct 3 xs (joined p 1 r)
+  unfolding readProduct
+  product-more {zs} {r} t f next = let s = product-split t f in
+      answers (λ k h. rw (← found front k (omega arith), ← front .behind, t, ← f, ← next .exact k (omega arith))) (joined-within r s (next .within))
+
+-- a factor
+pub factor-nothing : {xs : List ℕ} → Answers readOperand 1 xs Nothing → Answers readFactor 2 xs Nothing
+unfolding readFactor
+factor-nothing a = answers (λ k h. rw (← a .exact k (omega arith))) (omega arith)
+
+module _ {xs ys : List ℕ} {p : Part} (front : Front readOperand 1 xs p ys) where
+  pub fraction-split : {zs : List ℕ} → at ys 0 ≡ code "/" → zs ≡ drop 1 ys → Split xs p 1 zs
+  fraction-split t f = split front 1 (byte-room ys (code "/") (omega arith) t) f
+
+  pub scripted-split : Split xs p 0 ys
+  scripted-split = split front 0 (omega arith) refl
+
+  pub factor-fraction : {zs : List ℕ} {r : Read} → at ys 0 ≡ code "/" → zs ≡ drop 1 ys → Answers readOperand 1 zs r → Answers readFactor 2 xs (divided p r)
+  unfolding readFactor
+  factor-fraction {zs} {r} t f next = let s = fraction-split t f in
+      answers (λ k h. rw (← found front k (omega arith), ← front .behind, eq-eqb (at ys 0) (code "/") t, ← f, ← next .exact k (omega arith))) (divided-within r s (next .within))
+
+  pub factor-scripted : {r : Read} → (at ys 0 ≡ code "/" → ⊥) → p .lone ≡ true → Answers readScripts 1 ys r → Answers readFactor 2 xs (scripted p r)
+  unfolding readFactor
+  factor-scripted {r} t l next = let s = scripted-split in
+      answers (λ k h. rw (← found front k (omega arith), ← front .behind, ne-eqb (at ys 0) (code "/") t, l, ← next .exact k (omega arith))) (scripted-within r s (next .within))
+
+  pub factor-done : (at ys 0 ≡ code "/" → ⊥) → p .lone ≡ false → Answers readFactor 2 xs (Found p)
+  unfolding readFactor
+  factor-done t l = answers (λ k h. rw (← found front k (omega arith), ← front .behind, ne-eqb (at ys 0) (code "/") t, l)) (front .answers .within)
+
+-- an operand
+pub tail-size : (xs : List ℕ) {ys : List ℕ} → ys ≡ drop 1 xs → length ys ≡ length xs - 1
+tail-size xs d = ap length d ∙ length-drop 1 xs
+
+closed-within : {xs ys : List ℕ} (r : Read) → ys ≡ drop 1 xs → Within r ys → Within (closed ys r) xs
+closed-within Nothing d w = omega arith
+closed-within {xs} {ys} (Found p) d w = by (eqb (at ys (p .used)) (code ")")) refl
+  where
+    by : (b : Bool) → eqb (at ys (p .used)) (code ")") ≡ b → Within (either b (λ _. Found (wrap p)) (λ _. Nothing)) xs
+    by true e = let f = eqb-true (at ys (p .used)) (code ")") e in omega (arith, in-text ys (p .used) (omega arith), tail-size xs d)
+    by false e = omega arith
+
+grouped-within : {xs ys : List ℕ} (r : Read) → 1 ≤ length xs → ys ≡ drop 1 xs → Within r ys → Within (grouped r) xs
+grouped-within Nothing h d w = omega arith
+grouped-within {xs} {ys} (Found p) h d w = by (p .scriptless)
+  where
+    by : (b : Bool) → Within (either b (λ _. Found (asScript p)) (λ _. Nothing)) xs
+    by true = omega (arith, tail-size xs d)
+    by false = omega arith
+
+module _ (xs : List ℕ) where
+  pub operand-atom : {n : ℕ} → n ≡ atomLength xs → 0 < n → Answers readOperand 1 xs (Found (leaf n 1 true))
+  unfolding readOperand
+  operand-atom {n} e h = answers (λ k _. rw (← e, lt-ltb 0 n h)) (omega (arith, atom-room xs))
+
+  pub operand-group : {n : ℕ} {ys : List ℕ} {r : Read} → n ≡ atomLength xs → n ≤ 0 → at xs 0 ≡ code "(" → ys ≡ drop 1 xs → Answers readSum 4 ys r → Answers readOperand 1 xs (closed ys r)
+  unfolding readOperand
+  operand-group {n} {ys} {r} e h t d next =
+      answers (λ k enough. rw (← e, le-ltb 0 n h, eq-eqb (at xs 0) (code "(") t, ← d, ← next .exact k (omega (arith, tail-size xs d, byte-room xs (code "(") (omega arith) t)))) (closed-within r d (next .within))
+
+  pub operand-nothing : {n : ℕ} → n ≡ atomLength xs → n ≤ 0 → (at xs 0 ≡ code "(" → ⊥) → Answers readOperand 1 xs Nothing
+  unfolding readOperand
+  operand-nothing {n} e h t = answers (λ k _. rw (← e, le-ltb 0 n h, ne-eqb (at xs 0) (code "(") t)) (omega arith)
+
+-- the scripts of an atom
+pub scripts-nothing : {xs : List ℕ} → Answers (readScript (code "_")) 0 xs Nothing → Answers readScripts 1 xs Nothing
+unfolding readScripts
+scripts-nothing a = answers (λ k h. rw (← a .exact k (omega arith))) (omega arith)
+
+module _ {xs ys : List ℕ} {p : Part} (front : Front (readScript (code "_")) 0 xs p ys) where
+  pub scripts-split : Split xs p 0 ys
+  scripts-split = split front 0 (omega arith) refl
+
+  pub scripts-more : {r : Read} → Answers (readScript (code "^")) 0 ys r → Answers readScripts 1 xs (joined p 0 r)
+  unfolding readScripts
+  scripts-more {r} next = let s = scripts-split in
+      answers (λ k h. rw (← found front k (omega arith), ← front .behind, ← next .exact k (omega arith))) (joined-within r s (next .within))
+
+-- a script
+module _ (sign : ℕ) (xs : List ℕ) where
+  pub script-absent : (at xs 0 ≡ sign → ⊥) → Answers (readScript sign) 0 xs (Found (leaf 0 0 true))
+  unfolding readScript
+  script-absent t = answers (λ k _. rw (ne-eqb (at xs 0) sign t)) (omega arith)
+
+  module _ {ys : List ℕ} (pos : 0 < sign) (t : at xs 0 ≡ sign) (d : ys ≡ drop 1 xs) where
+    pub script-short : alnum (at ys 0) ≡ true → Answers (readScript sign) 0 xs (Found (leaf 2 0 false))
+    unfolding readScript
+    script-short e = answers (λ k _. rw (eq-eqb (at xs 0) sign t, ← d, e)) (omega (arith, word-room ys e, tail-size xs d))
+
+    pub script-group : {r : Read} → alnum (at ys 0) ≡ false → Answers readOperand 1 ys r → Answers (readScript sign) 0 xs (grouped r)
+    unfolding readScript
+    script-group {r} e next =
+        let one = byte-room xs sign pos t in
+        answers (λ k enough. rw (eq-eqb (at xs 0) sign t, ← d, e, ← next .exact k (omega (arith, tail-size xs d)))) (grouped-within r one d (next .within))

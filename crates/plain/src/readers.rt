@@ -1,0 +1,96 @@
+// A reader for each rule of the grammar. A sum holds factors and a factor may hold a sum, so the readers call each other; the unread
+// length falls.
+use super::Read;
+use super::joins;
+use super::tokens;
+ghost use Prim.Native.Nat.{_<_};
+ghost use Rattle.plain.specs.Readers.{Answers, readSum, readProduct, readFactor, readOperand, readScripts, readScript};
+
+// A sum: a product, or a product, ` + ` or ` - `, and a sum.
+pub fn sum(s: &[u8]) -> Read
+    ensures { λ r. ⌜ Answers readSum 4 (now (s .entry)) r ⌝ }
+{
+    let Read::Found(p) = product(s) else {
+        return Read::Nothing;
+    };
+    let n = p.used;
+    let t = tokens::rest(s, n);
+    if tokens::sign_next(t) {
+        return joins::joined(p, 3, sum(tokens::rest(t, 3)));
+    }
+    Read::Found(p)
+}
+
+// A product: a factor, or a factor, one space and a product.
+fn product(s: &[u8]) -> Read
+    ensures { λ r. ⌜ Answers readProduct 3 (now (s .entry)) r ⌝ }
+{
+    let Read::Found(p) = factor(s) else {
+        return Read::Nothing;
+    };
+    let n = p.used;
+    let t = tokens::rest(s, n);
+    if tokens::factor_next(t) {
+        return joins::joined(p, 1, product(tokens::rest(t, 1)));
+    }
+    Read::Found(p)
+}
+
+// A factor: a fraction, an atom with its scripts, or a sum in parentheses.
+fn factor(s: &[u8]) -> Read
+    ensures { λ r. ⌜ Answers readFactor 2 (now (s .entry)) r ⌝ }
+{
+    let Read::Found(p) = operand(s) else {
+        return Read::Nothing;
+    };
+    let n = p.used;
+    let t = tokens::rest(s, n);
+    if text::symbol(t, 0) == b'/' {
+        return joins::divided(p, operand(tokens::rest(t, 1)));
+    }
+    if p.lone {
+        return joins::scripted(p, scripts(t));
+    }
+    Read::Found(p)
+}
+
+// An operand: an atom, or a sum in parentheses.
+fn operand(s: &[u8]) -> Read
+    ensures { λ r. ⌜ Answers readOperand 1 (now (s .entry)) r ⌝ }
+{
+    let n = tokens::atom(s);
+    if 0 < n {
+        return joins::leaf(n, 1, true);
+    }
+    if text::symbol(s, 0) == b'(' {
+        let t = tokens::rest(s, 1);
+        return joins::closed(t, sum(t));
+    }
+    Read::Nothing
+}
+
+// The scripts of an atom: one of `_`, then one of `^`. Either may be missing.
+fn scripts(s: &[u8]) -> Read
+    ensures { λ r. ⌜ Answers readScripts 1 (now (s .entry)) r ⌝ }
+{
+    let Read::Found(p) = script(s, b'_') else {
+        return Read::Nothing;
+    };
+    let n = p.used;
+    joins::joined(p, 0, script(tokens::rest(s, n), b'^'))
+}
+
+// A sign and a script: one letter or digit, or a sum in parentheses. Where the sign is missing, nothing is read.
+fn script(s: &[u8], sign: u8) -> Read
+    requires { ⌜ 0 < sign ⌝ }
+    ensures { λ r. ⌜ Answers (readScript sign) 0 (now (s .entry)) r ⌝ }
+{
+    if text::symbol(s, 0) != sign {
+        return joins::leaf(0, 0, true);
+    }
+    let t = tokens::rest(s, 1);
+    if text::is_alnum(text::symbol(t, 0)) {
+        return joins::leaf(2, 0, false);
+    }
+    joins::grouped(operand(t))
+}

@@ -1,0 +1,73 @@
+// What comes next in a text: a sign, one more factor, an atom.
+ghost use mathlib.Core.Path.{_≡_};
+ghost use lib.ListN.{drop};
+ghost use Rattle.spec.specs.Symbols.{digit, all};
+ghost use Rattle.plain.specs.Tokens.{signNext, factorNext, run, isAtom, atomLength};
+
+// What is left after n bytes.
+pub fn rest(s: &[u8], n: usize) -> &[u8]
+    ensures { λ r. ⌜ now r ≡ drop n (now (s .entry)) ⌝ }
+{
+    if n <= s.len() { &s[n..] } else { &s[..0] }
+}
+
+// Does ` + ` or ` - ` come next?
+pub fn sign_next(s: &[u8]) -> bool
+    ensures { λ r. ⌜ r ≡ signNext (now (s .entry)) ⌝ }
+{
+    let sign = text::symbol(s, 1);
+    (text::symbol(s, 0) == b' ') & ((sign == b'+') | (sign == b'-')) & (text::symbol(s, 2) == b' ')
+}
+
+// Does a space come next that stands before no sign?
+pub fn factor_next(s: &[u8]) -> bool
+    ensures { λ r. ⌜ r ≡ factorNext (now (s .entry)) ⌝ }
+{
+    let sign = text::symbol(s, 1);
+    (text::symbol(s, 0) == b' ') & (sign != b'+') & (sign != b'-')
+}
+
+// How many letters and digits come next.
+fn run(s: &[u8]) -> usize
+    ensures { λ r. ⌜ r ≡ run (now (s .entry)) ⌝ }
+{
+    let mut i = 0;
+    while i < s.len() {
+        if !text::is_alnum(s[i]) {
+            return i;
+        }
+        i += 1;
+    }
+    i
+}
+
+fn all_digits(s: &[u8]) -> bool
+    ensures { λ r. ⌜ r ≡ all digit (now (s .entry)) ⌝ }
+{
+    let mut i = 0;
+    while i < s.len() {
+        if !text::is_digit(s[i]) {
+            return false;
+        }
+        i += 1;
+    }
+    true
+}
+
+// One letter, one of the thirty Greek names, or 1 to 9 digits.
+fn is_atom(s: &[u8]) -> bool
+    ensures { λ r. ⌜ r ≡ isAtom (now (s .entry)) ⌝ }
+{
+    let n = s.len();
+    let number = all_digits(s) & ((0 < n) & (n < 10));
+    let variable = text::is_letter(text::symbol(s, 0)) & (n == 1);
+    number | (variable | rows::is_greek(s))
+}
+
+// The length of the atom that comes next, or 0. A plain text has no letter or digit right behind an atom, so an atom is all of a run.
+pub fn atom(s: &[u8]) -> usize
+    ensures { λ r. ⌜ r ≡ atomLength (now (s .entry)) ⌝ }
+{
+    let n = run(s);
+    if is_atom(&s[..n]) { n } else { 0 }
+}
