@@ -1,0 +1,77 @@
+// Blocks held out of a text, and put back: the two ends of the stages that spare block text.
+use text::Progress;
+use text::Refusal;
+ghost use Rattle.spec.specs.Held.{Held, withText, holdTexts, holdBoth, putBack};
+ghost use Rattle.text.specs.Parts.{part};
+ghost use Rattle.text.specs.Stage.{Answered};
+ghost use Rattle.blocks.specs.Outside.{Holdable, HeldFrom};
+ghost use Rattle.blocks.specs.Carried.{Carries, Carried};
+
+// A text with marks: where it lies, its length, how many of its blocks are `\text` blocks, how many bytes all of them fill,
+// and how many symbols they have beyond their marks.
+pub struct Outside {
+    pub at: usize,
+    pub len: usize,
+    pub texts: usize,
+    pub used: usize,
+    pub extra: usize,
+}
+
+// Holds `\text{..}` blocks out.
+pub fn hold_texts(work: &mut [u8], from: usize, n: usize) -> Outside
+    requires { ⌜ Holdable (now work) from n ⌝ }
+    ensures { λ r. ⌜ HeldFrom (now (work .entry)) (now (work .exit)) r (holdTexts (part from n (now (work .entry)))) ⌝ }
+{
+    let to = text::CAP - from;
+    let m = held::hold_out(work, from, n, to, b"\\text{", held::TEXT, 0, 0);
+    Outside {
+        at: to,
+        len: m.len,
+        texts: m.filed / 4,
+        used: m.used,
+        extra: m.used - m.filed / 4,
+    }
+}
+
+// Holds `\text{..}` blocks out, and then `\mathrm{..}` blocks.
+pub fn hold_both(work: &mut [u8], from: usize, n: usize) -> Outside
+    requires { ⌜ Holdable (now work) from n ⌝ }
+    ensures { λ r. ⌜ HeldFrom (now (work .entry)) (now (work .exit)) r (holdBoth (part from n (now (work .entry)))) ⌝ }
+{
+    let to = text::CAP - from;
+    let m = held::hold_out(work, from, n, to, b"\\text{", held::TEXT, 0, 0);
+    let b = held::hold_out(
+        work,
+        to,
+        m.len,
+        from,
+        b"\\mathrm{",
+        held::ROMAN,
+        m.used,
+        m.filed,
+    );
+    Outside {
+        at: from,
+        len: b.len,
+        texts: m.filed / 4,
+        used: b.used,
+        extra: b.used - b.filed / 4,
+    }
+}
+
+// Puts every block back to its place, or says that the Rust loses one: number 6.
+pub fn put_all_back(work: &mut [u8], text: Progress, texts: usize, used: usize) -> Progress
+    requires { ⌜ Carried (now work) text texts used ⌝ }
+    ensures { λ r. ⌜ ((h : Held) → Carries (now (work .entry)) text texts used h → Answered (now (work .entry)) (now (work .exit)) text r (λ t. putBack (withText h t))) ⌝ }
+{
+    let Progress::Text(from, n) = text else {
+        return text;
+    };
+    if held::lost(work, from, n, texts, used) {
+        return Progress::Refused(Refusal::LostBlock);
+    }
+    let to = text::CAP - from;
+    let half = held::put_back(work, from, n, to, held::ROMAN, texts);
+    let len = held::put_back(work, to, half, from, held::TEXT, 0);
+    Progress::Text(from, len)
+}

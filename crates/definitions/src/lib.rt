@@ -1,0 +1,81 @@
+// The definitions of the table, applied outside of `\text{..}` blocks.
+use entries::Bounds;
+use table::Cursor;
+use table::Record;
+use table::Step;
+use text::Progress;
+ghost use mathlib.Core.Path.{_≡_};
+ghost use mathlib.Core.Bool.{false};
+ghost use mathlib.Core.List.{List};
+ghost use mathlib.Core.Option.{some};
+ghost use Rattle.spec.specs.Table.{Definition, definitions, byLength};
+ghost use Rattle.spec.specs.Definitions.{applyDefinitionsOutsideText};
+ghost use Rattle.text.specs.Stage.{Ready, Answered};
+ghost use Rattle.entries.specs.Sized.{Within, StagedWithin};
+ghost use Rattle.table.specs.Reading.{definitionAt};
+ghost use Rattle.table.specs.Faults.{refused};
+ghost use Rattle.blocks.specs.Outside.{Unmarked};
+ghost use Rattle.definitions.specs.Applying.{Usable, sizedDefinition, sizedDefinitions};
+
+// Applies one definition. Names of one byte are skipped.
+fn apply_definition(
+    work: &mut [u8],
+    text: Progress,
+    extra: usize,
+    table: &[u8],
+    found: Record,
+) -> Progress
+    requires { ⌜ Ready (now work) text ⌝ }
+    requires { ⌜ Within extra text ⌝ }
+    requires { ⌜ Usable (now table) found ⌝ }
+    ensures { λ r. ⌜ StagedWithin (now (work .entry)) (now (work .exit)) text r extra (sizedDefinition extra (definitionAt (now (table .entry)) found)) ⌝ }
+{
+    let start = found.name;
+    let middle = found.latex;
+    let end = found.next;
+    if middle - start == 1 {
+        return text;
+    }
+    entries::apply(
+        work,
+        text,
+        extra,
+        Bounds::Defined,
+        &table[start..middle],
+        &table[middle..end],
+    )
+}
+
+// Applies all of them, longer names first, each a stage of its own.
+fn apply_definitions(work: &mut [u8], text: Progress, extra: usize, table: &[u8]) -> Progress
+    requires { ⌜ Ready (now work) text ⌝ }
+    requires { ⌜ Within extra text ⌝ }
+    requires { ⌜ refused (definitions (now table)) ≡ false ⌝ }
+    ensures { λ r. ⌜ ((ds : List Definition) → definitions (now (table .entry)) ≡ some ds → StagedWithin (now (work .entry)) (now (work .exit)) text r extra (sizedDefinitions extra (byLength ds))) ⌝ }
+{
+    let mut done = text;
+    let mut cursor = Cursor::start(table);
+    loop {
+        let Step::Next(found, next) = cursor.next(table) else {
+            return done;
+        };
+        done = apply_definition(work, done, extra, table, found);
+        cursor = next;
+    }
+}
+
+// The stages of the definitions of a table that number 3 lets pass, and number 6. Lengths count the held blocks in full.
+pub fn apply_definitions_outside_text(work: &mut [u8], text: Progress, table: &[u8]) -> Progress
+    requires { ⌜ Ready (now work) text ⌝ }
+    requires { ⌜ Unmarked (now work) text ⌝ }
+    requires { ⌜ refused (definitions (now table)) ≡ false ⌝ }
+    ensures { λ r. ⌜ ((ds : List Definition) → definitions (now (table .entry)) ≡ some ds → Answered (now (work .entry)) (now (work .exit)) text r (applyDefinitionsOutsideText (byLength ds))) ⌝ }
+{
+    let Progress::Text(from, n) = text else {
+        return text;
+    };
+    let held = blocks::hold_texts(work, from, n);
+    let outside = Progress::Text(held.at, held.len);
+    let defined = apply_definitions(work, outside, held.extra, table);
+    blocks::put_all_back(work, defined, held.texts, held.used)
+}

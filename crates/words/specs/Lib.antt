@@ -1,0 +1,4 @@
+-- The tables of names, and the stages that apply their rows.
+pub mod Rows
+pub mod Kinds
+pub mod Outside

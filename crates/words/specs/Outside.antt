@@ -1,0 +1,103 @@
+-- Greek names and words, while blocks are held out.
+--     rows-held       a table's stages on a text with marks are those on what is held
+--     words-held      the same of both tables
+-- Assumes nothing.
+use mathlib.Core.Path.{_≡_, refl, sym, ap, _∙_}
+use mathlib.Core.Bool.{Bool, true, false, cond}
+use mathlib.Core.List.{List, [], _∷_}
+use Prim.Native.Nat.{ℕ, _+_}
+use lib.Dec.{ltb}
+use lib.ListN.{length}
+use Rattle.spec.specs.Sweep.{Rule, sweep}
+use Rattle.spec.specs.Result.{Result, passed, refused, _then_, mostSymbols}
+use Rattle.spec.specs.Rows.{Row, greekLetters, wordMappings}
+use Rattle.spec.specs.Held.{Held, withText, heldStage, holdBoth, putBack}
+use Rattle.spec.specs.Words.{heldRows, convertWords}
+use Rattle.spec.specs.Laws.Booleans.{and-left, and-right}
+use Rattle.text.specs.Stage.{staged-then}
+use Rattle.text.specs.declared.Progress.{Progress}
+use Rattle.held.specs.WellMade.{WellMade}
+use Rattle.held.specs.Rewriting.{Between, sweep-made}
+use Rattle.held.specs.Instances.{fineRow, fineRows, greek-fine, words-fine, greek-between, word-between, rows-made, refused-not}
+use Rattle.entries.specs.Sized.{sized, StagedWithin}
+use Rattle.blocks.specs.Outside.{Extra}
+use Rattle.blocks.specs.Carried.{held-sized}
+use Rattle.words.specs.declared.Kind.the-variants.{Greek, Word}
+use Rattle.words.specs.Rows.{rowsBetween, greek-between as greek-rows, words-between as word-rows}
+use Rattle.words.specs.Kinds.{ruleOf, sizedRows}
+
+-- the text is put between the marks again
+abbrev pub wrapped : Held → List ℕ → Result Held
+wrapped h t = passed (withText h t)
+
+module _ (rule : Row → Rule) (each : (r : Row) → fineRow r ≡ true → Between (rule r)) (extra : ℕ) where
+  pub rows-held :
+      (rs : List Row) → fineRows rs ≡ true → (h : Held) → Extra h extra → WellMade h
+      → heldRows rule rs h ≡ (sizedRows extra rule rs (h .text) then wrapped h)
+  unfolding heldRows sizedRows
+  rows-held [] fine h e made = refl
+  rows-held (r ∷ rs) fine h e made =
+      let next = sweep-made (each r (and-left (fineRow r) (fineRows rs) fine)) made in
+      ap (λ q. q then heldRows rule rs) (held-sized extra (sweep (rule r) 0 0) h e next)
+      ∙ go (ltb mostSymbols (length (sweep (rule r) 0 0 (h .text)) + extra)) (rows-held rs (and-right (fineRow r) (fineRows rs) fine) (withText h (sweep (rule r) 0 0 (h .text))) e next)
+    where
+      go : (t : Bool)
+          → heldRows rule rs (withText h (sweep (rule r) 0 0 (h .text))) ≡ (sizedRows extra rule rs (sweep (rule r) 0 0 (h .text)) then wrapped h)
+          → (cond {A = Result (List ℕ)} t (refused 5) (passed (sweep (rule r) 0 0 (h .text))) then wrapped h then heldRows rule rs)
+          ≡ (cond {A = Result (List ℕ)} t (refused 5) (passed (sweep (rule r) 0 0 (h .text))) then sizedRows extra rule rs then wrapped h)
+      go true later = refl
+      go false later = later
+
+  pub rows-kept :
+      (rs : List Row) → fineRows rs ≡ true → (h : Held) → Extra h extra → WellMade h → {t : List ℕ} → sizedRows extra rule rs (h .text) ≡ passed t
+      → WellMade (withText h t)
+  rows-kept rs fine h e made same = rows-made rule each rs fine made (rows-held rs fine h e made ∙ ap (λ q. q then wrapped h) same)
+
+-- ---- both tables
+abbrev pub bothRows : ℕ → List ℕ → Result (List ℕ)
+bothRows extra s = sizedRows extra (ruleOf Greek) (rowsBetween 20 50) s then sizedRows extra (ruleOf Word) (rowsBetween 50 106)
+
+abbrev pub heldBoth : Held → Result Held
+heldBoth h = heldRows (ruleOf Greek) (rowsBetween 20 50) h then heldRows (ruleOf Word) (rowsBetween 50 106)
+
+greek-rows-fine : fineRows (rowsBetween 20 50) ≡ true
+greek-rows-fine = ap fineRows greek-rows ∙ greek-fine
+
+word-rows-fine : fineRows (rowsBetween 50 106) ≡ true
+word-rows-fine = ap fineRows word-rows ∙ words-fine
+
+module _ (extra : ℕ) (h : Held) (e : Extra h extra) (made : WellMade h) where
+  pub words-held : heldBoth h ≡ (bothRows extra (h .text) then wrapped h)
+  words-held =
+      ap (λ q. q then heldRows (ruleOf Word) (rowsBetween 50 106)) (rows-held (ruleOf Greek) greek-between extra (rowsBetween 20 50) greek-rows-fine h e made)
+      ∙ go (sizedRows extra (ruleOf Greek) (rowsBetween 20 50) (h .text)) refl
+    where
+      go : (q : Result (List ℕ)) → sizedRows extra (ruleOf Greek) (rowsBetween 20 50) (h .text) ≡ q
+          → (q then wrapped h then heldRows (ruleOf Word) (rowsBetween 50 106)) ≡ (q then sizedRows extra (ruleOf Word) (rowsBetween 50 106) then wrapped h)
+      go (passed t) same =
+          rows-held (ruleOf Word) word-between extra (rowsBetween 50 106) word-rows-fine (withText h t) e
+          (rows-kept (ruleOf Greek) greek-between extra (rowsBetween 20 50) greek-rows-fine h e made same)
+      go (refused n) same = refl
+
+  pub words-kept : (t : List ℕ) → bothRows extra (h .text) ≡ passed t → WellMade (withText h t)
+  words-kept t = go (sizedRows extra (ruleOf Greek) (rowsBetween 20 50) (h .text)) refl
+    where
+      go : (q : Result (List ℕ)) → sizedRows extra (ruleOf Greek) (rowsBetween 20 50) (h .text) ≡ q
+          → (q then sizedRows extra (ruleOf Word) (rowsBetween 50 106)) ≡ passed t → WellMade (withText h t)
+      go (passed u) same last =
+          rows-kept (ruleOf Word) word-between extra (rowsBetween 50 106) word-rows-fine (withText h u) e
+          (rows-kept (ruleOf Greek) greek-between extra (rowsBetween 20 50) greek-rows-fine h e made same) last
+      go (refused n) same last = refused-not last
+
+pub words-by-held : (s : List ℕ) → convertWords s ≡ (heldBoth (holdBoth s) then putBack)
+unfolding convertWords
+words-by-held s =
+    ap (λ rs. heldRows (ruleOf Greek) rs (holdBoth s) then heldRows (ruleOf Word) wordMappings then putBack) (sym greek-rows)
+    ∙ ap (λ rs. heldRows (ruleOf Greek) (rowsBetween 20 50) (holdBoth s) then heldRows (ruleOf Word) rs then putBack) (sym word-rows)
+
+-- ---- one table after the other
+pub within-then :
+    {w w′ w″ : List ℕ} {p p′ p″ : Progress} {extra : ℕ} {f g : List ℕ → Result (List ℕ)}
+    → StagedWithin w w′ p p′ extra f → StagedWithin w′ w″ p′ p″ extra g
+    → StagedWithin w w″ p p″ extra (λ s. f s then g)
+within-then a b = record { staged = staged-then (a .staged) (b .staged); within = b .within }
