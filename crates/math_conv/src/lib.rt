@@ -1,0 +1,41 @@
+// The entry: a formula and a definition table in, LaTeX out, over lent buffers.
+mod admission;
+mod output;
+mod stages;
+
+use admission::admit;
+use output::put_out;
+use stages::convert;
+use text::Refusal;
+ghost use Rattle.spec.specs.Pipeline.{Call};
+ghost use Rattle.math_conv.specs.Answer.{meaning};
+
+// Number 4: the least length of the work buffer.
+pub const LEAST_WORK: usize = 32_768;
+
+// The byte count of the LaTeX, or why there is none.
+pub enum Answer {
+    Done(usize),
+    Refused(Refusal),
+}
+
+// The Rust's `typst_to_latex`, with the refusals of document 01 around it. The LaTeX comes to stand at the start of `output`. All of `work` is
+// zero afterwards, unless it is too narrow.
+pub fn typst_to_latex(
+    formula: &[u8],
+    table: &[u8],
+    display: bool,
+    work: &mut [u8],
+    output: &mut [u8],
+) -> Answer
+    ensures { λ r. ⌜ Call (now (formula .entry)) (now (table .entry)) display (now (work .entry)) (now (output .entry)) (meaning r) (now (work .exit)) (now (output .exit)) ⌝ }
+{
+    if work.len() < LEAST_WORK {
+        return Answer::Refused(Refusal::NarrowWork);
+    }
+    let admitted = admit(work, formula, table);
+    let latex = convert(work, admitted, table, display);
+    let answer = put_out(work, latex, output);
+    text::clear(work);
+    answer
+}
