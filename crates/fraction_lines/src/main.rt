@@ -2,29 +2,9 @@
 use text::CAP;
 use text::Found;
 use text::Progress;
-use text::Refusal;
-ghost use mathlib.Core.Path.{_≡_};
 ghost use Prim.Native.Nat.{_≤_};
 ghost use lib.ListN.{length};
-ghost use Rattle.text.specs.Stage.{Placed, number as numbered};
-
-// Document 01's number of a refusal.
-fn number(refusal: Refusal) -> u64
-    ensures { λ r. ⌜ r ≡ numbered refusal ⌝ }
-{
-    match refusal {
-        Refusal::ForeignByte => 1,
-        Refusal::LongFormula => 2,
-        Refusal::FaultyTable => 3,
-        Refusal::NarrowWork => 4,
-        Refusal::Overgrown => 5,
-        Refusal::LostBlock => 6,
-        Refusal::Unsettled => 7,
-        Refusal::BareDelimiter => 8,
-        Refusal::BarredSolidus => 9,
-        Refusal::ShortOutput => 10,
-    }
-}
+ghost use Rattle.text.specs.Stage.{Placed};
 
 fn show(work: &[u8], progress: Progress)
     requires { ⌜ 32768 ≤ length (now work) ⌝ }
@@ -37,7 +17,7 @@ fn show(work: &[u8], progress: Progress)
         }
         Progress::Refused(refusal) => {
             io::write_all(1, b"refused ");
-            io::print_decimal(1, number(refusal));
+            io::print_decimal(1, text::number(refusal));
         }
     }
     io::write_all(1, b"\n");

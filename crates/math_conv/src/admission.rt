@@ -8,15 +8,12 @@ ghost use lib.ListN.{length};
 ghost use Rattle.spec.specs.Symbols.{foreign, any};
 ghost use Rattle.math_conv.specs.Answer.{Admits};
 
-// Number 2: the most bytes of a formula.
-const MOST_FORMULA: usize = 4_096;
-
 // The formula as the first text of the work buffer, or its refusal.
 pub fn admit(work: &mut [u8], formula: &[u8], table: &[u8]) -> Progress
     requires { ⌜ 32768 ≤ length (now work) ⌝ }
     ensures { λ r. ⌜ Admits (now (formula .entry)) (now (table .entry)) (now (work .entry)) (now (work .exit)) r ⌝ }
 {
-    if MOST_FORMULA < formula.len() {
+    if text::MOST_FORMULA < formula.len() {
         return Progress::Refused(Refusal::LongFormula);
     }
     if has_foreign(formula) {

@@ -7,9 +7,6 @@ mod tokens;
 
 ghost use Rattle.plain.specs.Check.{Checked};
 
-// The most bytes of a formula, and so of a plain text.
-pub const MOST_FORMULA: usize = 4_096;
-
 // What was read: its bytes and atoms, and what the rules ask of it. It is lone if it is one atom, and wrapped if it is one atom in
 // parentheses.
 struct Part {
@@ -37,7 +34,7 @@ pub enum Answer {
 pub fn plain_check(s: &[u8]) -> Answer
     ensures { λ r. ⌜ Checked (now (s .entry)) r ⌝ }
 {
-    if MOST_FORMULA < s.len() {
+    if text::MOST_FORMULA < s.len() {
         return Answer::No;
     }
     let Read::Found(p) = readers::sum(s) else {

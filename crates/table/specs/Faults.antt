@@ -11,10 +11,10 @@ use Prim.Native.Nat.{ℕ, suc, _+_, _-_, _≤_, _<_}
 use native.Mathlib.Nat.{zero-add}
 use native.Mathlib.Omega.{arith}
 use lib.Dec.{ltb, eqb}
-use lib.ListN.{length, getD, drop, drop-of-length-le}
+use lib.ListN.{length, getD, drop}
 use borrow.Author.Tests.{lt-ltb, le-ltb}
-use Rattle.spec.specs.Symbols.{letter, alnum, all, any, same, starts}
-use Rattle.spec.specs.Laws.Symbols.{drop-step, head-drop}
+use Rattle.spec.specs.Symbols.{letter, alnum, all, same, starts}
+use Rattle.spec.specs.Laws.Symbols.{head-drop}
 use Rattle.spec.specs.Table.{Definition, mostBytes, mostRecords, records, faultyName, faultyLatex, named, faulty, whole, definitions}
 use Rattle.table.specs.Reading.{readAt, recordsBy, records-at, definitionAt}
 use Rattle.table.specs.Listed.{listed, listed-records}
@@ -31,26 +31,6 @@ overfull c (some ds) = ltb mostRecords (c + length ds)
 
 abbrev pub faultyFirst : Definition → List Definition → Bool
 faultyFirst d ds = faultyName (d .name) || (faultyLatex (d .latex) || named (d .name) ds)
-
--- ---- a test of each symbol of a text, from a place on
-module _ (f : ℕ → Bool) (s : List ℕ) (i : ℕ) where
-  pub all-more : i < length s → f (getD s i 0) ≡ true → all f (drop i s) ≡ all f (drop (i + 1) s)
-  all-more h e = rw (drop-step s i h, all, e)
-
-  pub all-stop : i < length s → f (getD s i 0) ≡ false → all f (drop i s) ≡ false
-  all-stop h e = rw (drop-step s i h, all, e)
-
-  pub all-end : length s ≤ i → all f (drop i s) ≡ true
-  all-end h = rw (drop-of-length-le s h)
-
-  pub any-more : i < length s → f (getD s i 0) ≡ false → any f (drop i s) ≡ any f (drop (i + 1) s)
-  any-more h e = rw (drop-step s i h, any, e)
-
-  pub any-stop : i < length s → f (getD s i 0) ≡ true → any f (drop i s) ≡ true
-  any-stop h e = rw (drop-step s i h, any, e)
-
-  pub any-end : length s ≤ i → any f (drop i s) ≡ false
-  any-end h = rw (drop-of-length-le s h)
 
 -- ---- names
 pub faulty-start : (name : List ℕ) → letter (getD name 0 0) ≡ false → faultyName name ≡ true

@@ -3,13 +3,16 @@
 --     leftOver, Closes     of a search whose offset is a closer's or a comma's, and what it leaves over lies behind it
 -- Assumes nothing.
 use mathlib.Core.Path.{_≡_, refl, sym, ap, _∙_, subst}
-use mathlib.Core.Bool.{Bool, true, false, _||_}
+use mathlib.Core.Bool.{Bool, true, false, _||_, false≢true}
 use mathlib.Core.List.{List, [], _∷_}
+use mathlib.Core.Logic.{_⊎_, ⊎-elim, inl, inr}
 use mathlib.Core.Option.{Option, none, some}
-use Prim.Native.Nat.{ℕ, _+_, _-_, _≤_, _<_, pred}
+use Prim.Native.Nat.{ℕ, zero, suc, _+_, _-_, _≤_, _<_, pred}
+use native.Mathlib.Decide.{decLt}
 use native.Mathlib.Omega.{arith}
-use lib.ListN.{length, take, drop, length-drop}
+use lib.ListN.{length, getD, take, drop, length-drop}
 use lib.Seq.{drop-drop}
+use Rattle.spec.specs.Laws.Symbols.{drop-step, starts-other, find-drop}
 use Rattle.spec.specs.Symbols.{inside, until, starts, find, contains}
 use Rattle.text.specs.Parts.{part, rest-of}
 use Rattle.text.specs.declared.Found.{Found}
@@ -55,6 +58,42 @@ module _ {s : List ℕ} {r : Found} {o : Option (List ℕ)} where
 
   pub closes-nothing : Closes s r o → r ≡ Nothing → o ≡ none
   closes-nothing f e = sym (f .left) ∙ ap (leftOver s) e
+
+-- ---- the next place of a symbol
+-- from i on, the symbol stands at r for the first time, or nowhere
+pub record Sought (s : List ℕ) (i b r : ℕ) : Type 0 where
+  pub after : i ≤ r
+  pub within : r ≤ length s
+  pub passed : (k : ℕ) → i ≤ k → k < r → getD s k 0 ≡ b → ⊥
+
+pub sought-none : {s : List ℕ} {i b : ℕ} → i ≤ length s → Sought s i b i
+sought-none h = record { after = omega arith; within = h; passed = λ k h l. absurd (omega arith) }
+
+pub sought-more : {s : List ℕ} {i b r : ℕ} → Sought s i b r → r < length s → (getD s r 0 ≡ b → ⊥) → Sought s i b (r + 1)
+sought-more {s} {i} {b} {r} q h other =
+    let a = q .after in
+    record {
+      after = omega arith;
+      within = omega arith;
+      passed = λ k l m e. ⊎-elim (λ (z : k < r). q .passed k l z e) (λ (z : k ≡ r). other (ap (λ j. getD s j 0) (sym z) ∙ e)) (before k m);
+    }
+  where
+    before : (k : ℕ) → k < r + 1 → (k < r) ⊎ (k ≡ r)
+    before k m = elim (decLt k r) [ yes z ↦ inl z | no z ↦ inr (omega arith) ]
+
+-- a pattern whose first symbol does not stand on the way is found from there on
+pub find-sought : (pattern s : List ℕ) {i first r : ℕ} → first ≡ getD pattern 0 0 → starts pattern (drop i s) ≡ false → i < length s → Sought s (i + 1) first r → find pattern (drop i s) ≡ find pattern (drop r s)
+find-sought [] s f other h q = absurd (false≢true (sym other))
+find-sought (k ∷ w) s {i} {first} {r} f other h q =
+    let after = q .after in find-drop (k ∷ w) s i h other ∙ go (r - (i + 1)) (i + 1) (omega arith) (omega arith)
+  where
+    go : (n j : ℕ) → j + n ≡ r → i + 1 ≤ j → find (k ∷ w) (drop j s) ≡ find (k ∷ w) (drop r s)
+    go zero j e l = let z : j ≡ r = omega arith in ap (λ m. find (k ∷ w) (drop m s)) z
+    go (suc n) j e l =
+        let within = q .within in let less : j < r = omega arith in let here : j < length s = omega arith in
+        find-drop (k ∷ w) s j here
+        (ap (starts (k ∷ w)) (drop-step s j here) ∙ starts-other k (getD s j 0) w (drop (j + 1) s) (λ same. q .passed j l less (same ∙ sym f)))
+        ∙ go n (j + 1) (omega arith) (omega arith)
 
 -- ---- whether a pattern occurs
 abbrev pub isSome : Option (List ℕ) → Bool

@@ -27,7 +27,10 @@ pub use writer::pop;
 pub use writer::put;
 pub use writer::put_all;
 ghost use mathlib.Core.Path.{_≡_};
-ghost use Rattle.text.specs.Stage.{judged};
+ghost use Rattle.text.specs.Stage.{judged, number as numbered};
+
+// Number 2: the most bytes of a formula, and so of a plain text.
+pub const MOST_FORMULA: usize = 4_096;
 
 // The most symbols of a stage's finished text, and so the room of each of the two regions that texts lie in.
 pub const CAP: usize = 8_192;
@@ -44,6 +47,24 @@ pub enum Refusal {
     BareDelimiter,
     BarredSolidus,
     ShortOutput,
+}
+
+// Document 01's number of a refusal.
+pub fn number(why: Refusal) -> u64
+    ensures { λ r. ⌜ r ≡ numbered why ⌝ }
+{
+    match why {
+        Refusal::ForeignByte => 1,
+        Refusal::LongFormula => 2,
+        Refusal::FaultyTable => 3,
+        Refusal::NarrowWork => 4,
+        Refusal::Overgrown => 5,
+        Refusal::LostBlock => 6,
+        Refusal::Unsettled => 7,
+        Refusal::BareDelimiter => 8,
+        Refusal::BarredSolidus => 9,
+        Refusal::ShortOutput => 10,
+    }
 }
 
 // A text's place and length in the work buffer, or its refusal.

@@ -2,9 +2,10 @@
 use super::Found;
 ghost use mathlib.Core.Path.{_≡_};
 ghost use mathlib.Core.List.{_∷_};
-ghost use lib.ListN.{getD};
+ghost use Prim.Native.Nat.{_≤_};
+ghost use lib.ListN.{length, getD};
 ghost use Rattle.spec.specs.Symbols.{starts, find as found, contains as occurs};
-ghost use Rattle.text.specs.Search.{Finds};
+ghost use Rattle.text.specs.Search.{Finds, Sought};
 
 // Whether the text begins with the pattern.
 pub fn starts_with(s: &[u8], pattern: &[u8]) -> bool
@@ -21,16 +22,32 @@ pub fn starts_with(s: &[u8], pattern: &[u8]) -> bool
     true
 }
 
-// The offset of the pattern's first occurrence.
+// The first place from i on where the symbol stands, or the end.
+fn seek(s: &[u8], i: usize, b: u8) -> usize
+    requires { ⌜ i ≤ length (now s) ⌝ }
+    ensures { λ r. ⌜ Sought (now (s .entry)) i b r ⌝ }
+{
+    let mut k = i;
+    while k < s.len() {
+        if s[k] == b {
+            return k;
+        }
+        k += 1;
+    }
+    k
+}
+
+// The offset of the pattern's first occurrence. Only where its first symbol stands is more of it looked at.
 pub fn find(s: &[u8], pattern: &[u8]) -> Found
     ensures { λ r. ⌜ Finds (now (s .entry)) r (found (now (pattern .entry)) (now (s .entry))) ⌝ }
 {
+    let first = symbol(pattern, 0);
     let mut i = 0;
     while i < s.len() {
         if starts_with(&s[i..], pattern) {
             return Found::At(i);
         }
-        i += 1;
+        i = seek(s, i + 1, first);
     }
     Found::Nothing
 }

@@ -10,7 +10,7 @@ use lib.Dec.{eqb}
 use lib.ListN.{length, getD, drop, drop-of-length-le}
 use lib.Seq.{drop-cons}
 use borrow.Author.Tests.{eq-eqb, ne-eqb}
-use Rattle.spec.specs.Symbols.{head, past, starts, find}
+use Rattle.spec.specs.Symbols.{head, past, all, any, starts, find}
 
 -- ---- places
 pub drop-step : (s : List ℕ) (i : ℕ) → i < length s → drop i s ≡ getD s i 0 ∷ drop (i + 1) s
@@ -30,6 +30,26 @@ past-drop s i = rw (add-one i) (go s i)
     go [] (suc i) = refl
     go (x ∷ s) zero = refl
     go (x ∷ s) (suc i) = go s i
+
+-- ---- a test of each symbol of a text, from a place on
+module _ (f : ℕ → Bool) (s : List ℕ) (i : ℕ) where
+  pub all-more : i < length s → f (getD s i 0) ≡ true → all f (drop i s) ≡ all f (drop (i + 1) s)
+  all-more h e = rw (drop-step s i h, all, e)
+
+  pub all-stop : i < length s → f (getD s i 0) ≡ false → all f (drop i s) ≡ false
+  all-stop h e = rw (drop-step s i h, all, e)
+
+  pub all-end : length s ≤ i → all f (drop i s) ≡ true
+  all-end h = rw (drop-of-length-le s h)
+
+  pub any-more : i < length s → f (getD s i 0) ≡ false → any f (drop i s) ≡ any f (drop (i + 1) s)
+  any-more h e = rw (drop-step s i h, any, e)
+
+  pub any-stop : i < length s → f (getD s i 0) ≡ true → any f (drop i s) ≡ true
+  any-stop h e = rw (drop-step s i h, any, e)
+
+  pub any-end : length s ≤ i → any f (drop i s) ≡ false
+  any-end h = rw (drop-of-length-le s h)
 
 -- ---- how a text begins
 pub starts-long : (pattern s : List ℕ) → starts pattern s ≡ true → length pattern ≤ length s

@@ -6,7 +6,7 @@ use native.Mathlib.Omega.{arith}
 use lib.ListN.{length, drop}
 use borrow.Author.Needs.{needs}
 use Rattle.spec.specs.Symbols.{foreign, any}
-use Rattle.table.specs.Faults.{any-more, any-stop, any-end}
+use Rattle.spec.specs.Laws.Symbols.{any-more, any-stop, any-end}
 use Rattle.math_conv.proofs.admission.has_foreign.Statement.{statement}
 use Rattle.math_conv.proofs.admission.has_foreign.Tie as tie
 

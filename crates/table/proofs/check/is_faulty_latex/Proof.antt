@@ -1,5 +1,5 @@
 -- `table::check::is_faulty_latex` meets its contract. The loop's invariant: the bytes from i on decide. Assumes nothing.
-use Rattle.table.specs.Faults.{any-more, any-stop, any-end}
+use Rattle.spec.specs.Laws.Symbols.{any-more, any-stop, any-end}
 use Rattle.spec.specs.Symbols.{is, foreign, any}
 use Rattle.spec.specs.Table.{faultyLatex}
 use lib.ListN.{length, getD, drop}

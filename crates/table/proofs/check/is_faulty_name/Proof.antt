@@ -1,5 +1,6 @@
 -- `table::check::is_faulty_name` meets its contract. The loop's invariant: the name begins with a letter, and the bytes from i on decide. Assumes nothing.
-use Rattle.table.specs.Faults.{faulty-start, faulty-within, all-more, all-stop, all-end}
+use Rattle.spec.specs.Laws.Symbols.{all-more, all-stop, all-end}
+use Rattle.table.specs.Faults.{faulty-start, faulty-within}
 use Rattle.spec.specs.Symbols.{letter, alnum, all}
 use Rattle.spec.specs.Table.{faultyName}
 use borrow.Author.Tests.{not-true, not-false}

@@ -1,6 +1,7 @@
 -- `text::search::find` meets its contract. The loop's invariant: the pattern is found from place i on where it is found at all. Assumes nothing.
 use Rattle.text.specs.Parts.{rest-of}
-use Rattle.spec.specs.Laws.Symbols.{find-here, find-drop, find-end}
+use Rattle.text.specs.Search.{find-sought}
+use Rattle.spec.specs.Laws.Symbols.{find-here, find-end}
 use Rattle.spec.specs.Symbols.{starts, find}
 use lib.ListN.{length, drop, length-drop}
 use mathlib.Core.Path.{_≡_, refl, sym, ap, _∙_}
@@ -11,10 +12,13 @@ use Rattle.text.proofs.search.find.Statement.{statement}
 use Rattle.text.proofs.search.find.Tie as tie
 
 abbrev Inv-loop : tie.InvT-loop
-Inv-loop s pattern i₀ i = (i ≤ length s) × (find pattern s ≡ find pattern (drop i s))
+Inv-loop s pattern first i₀ i = (i ≤ length s) × (find pattern s ≡ find pattern (drop i s))
 
 abbrev μ-loop : tie.MeasureT-loop
-μ-loop s pattern i₀ i = length s - i
+μ-loop s pattern first i₀ i = length s - i
+
+symbol-requires : tie.Need-symbol-requires Inv-loop μ-loop
+symbol-requires c κs = search needs
 
 loop-holds : tie.Need-loop-holds Inv-loop μ-loop
 loop-holds c = (omega arith, refl)
@@ -34,31 +38,30 @@ starts-with-requires c κs = search needs
 returns : tie.Need-returns Inv-loop μ-loop
 returns c =
     let l = c .before .before .before .before in
-    let s = l .before .before .before .args .s .now in
-    let i = l .loop .i in
-    let met = sym (c .before .starts-with .ensures ∙ ap (starts (l .before .before .before .args .pattern .now)) (rest-of i s)) ∙ c .if1 .taken in
-    record { within = omega arith; found = sym (l .loop .inv .1 ∙ find-here _ (drop i s) (simp length-drop (omega arith)) met) }
+    let a = c .before .before .before .before .before .before .before .before .args in
+    let met = sym (c .before .starts-with .ensures ∙ ap (starts (a .pattern .now)) (rest-of (l .loop .i) (a .s .now))) ∙ c .if1 .taken in
+    record { within = omega arith; found = sym (l .loop .inv .1 ∙ find-here _ (drop (l .loop .i) (a .s .now)) (simp length-drop (omega arith)) met) }
 
-add-i : tie.Need-add-i Inv-loop μ-loop
-add-i c = omega arith
+add-seek : tie.Need-add-seek Inv-loop μ-loop
+add-seek c = omega arith
+
+seek-requires : tie.Need-seek-requires Inv-loop μ-loop
+seek-requires c κs = omega arith
 
 loop-less : tie.Need-loop-less Inv-loop μ-loop
-loop-less c = omega arith
+loop-less c = let after = c .seek .ensures .after in let within = c .seek .ensures .within in omega arith
 
 loop-again : tie.Need-loop-again Inv-loop μ-loop
 loop-again c =
-    let l = c .before .before .before .before in
-    let s = l .before .before .before .args .s .now in
-    let pattern = l .before .before .before .args .pattern .now in
-    let i = l .loop .i in
-    let other = sym (c .before .starts-with .ensures ∙ ap (starts pattern) (rest-of i s)) ∙ c .if1 .left in
-    (omega arith, l .loop .inv .1 ∙ find-drop pattern s i (omega arith) other)
+    let l = c .before .before .before .before .before in
+    let a = c .before .before .before .before .before .before .before .before .before .args in
+    let other = sym (c .before .before .starts-with .ensures ∙ ap (starts (a .pattern .now)) (rest-of (l .loop .i) (a .s .now))) ∙ c .before .if1 .left in
+    (c .seek .ensures .within, l .loop .inv .1 ∙ find-sought (a .pattern .now) (a .s .now) (c .before .before .before .before .before .before .symbol .ensures) other (omega arith) (c .seek .ensures))
 
 returns-2 : tie.Need-returns-2 Inv-loop μ-loop
 returns-2 c =
     let l = c .before in
-    let s = l .before .before .before .args .s .now in
-    record { within = omega arith; found = sym (l .loop .inv .1 ∙ find-end _ s (l .loop .i) (omega arith)) }
+    record { within = omega arith; found = sym (l .loop .inv .1 ∙ find-end _ (c .before .before .before .before .before .args .s .now) (l .loop .i) (omega arith)) }
 
 pub find-spec : {M : Type 1} → statement M
 find-spec =
@@ -66,13 +69,15 @@ find-spec =
     (tie.spec
     Inv-loop
     μ-loop
+    symbol-requires
     loop-holds
     sub-starts-with
     part-starts-with-start
     part-starts-with-end
     starts-with-requires
     returns
-    add-i
+    add-seek
+    seek-requires
     loop-less
     loop-again
     returns-2)
