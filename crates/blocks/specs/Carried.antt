@@ -3,18 +3,17 @@
 --     carries-staged    so it is after stages that count the held blocks
 --     outside-answered  holding out, such stages, and putting back are the definitions' stage
 -- Assumes nothing.
-use mathlib.Core.Path.{_≡_, refl, sym, ap, _∙_, subst}
+use mathlib.Core.Path.{_≡_, refl, sym, ap, ap₂, _∙_, subst}
 use mathlib.Core.Bool.{Bool, true, false, cond, _||_}
 use mathlib.Core.List.{List}
-use mathlib.Core.Logic.{_⊎_, inl, inr, ⊎-elim}
-use Prim.Native.Nat.{ℕ, _+_, _-_, _≤_, _<_}
+use mathlib.Core.Logic.{inl, inr, ⊎-elim}
+use Prim.Native.Nat.{ℕ, _+_, _-_, _≤_}
 use native.Mathlib.Omega.{arith}
 use lib.Dec.{ltb}
-use lib.ListN.{length, drop, length-append}
-use borrow.Author.Tests.{le-ltb}
+use lib.ListN.{length, length-append}
 use Rattle.spec.specs.Symbols.{textMark, romanMark}
 use Rattle.spec.specs.Held.{Held, withText, inFull, filled, heldStage, putBack}
-use Rattle.spec.specs.Result.{Result, passed, refused, _then_, mostSymbols, grown}
+use Rattle.spec.specs.Result.{Result, passed, refused, _then_, mostSymbols}
 use Rattle.text.specs.Parts.{part, length-part}
 use Rattle.text.specs.Writer.{Appended, Apart, appended-long}
 use Rattle.text.specs.Written.{appended-text}
@@ -28,11 +27,12 @@ use Rattle.held.specs.Noted.{noted}
 use Rattle.held.specs.Filing.{blocksAt}
 use Rattle.held.specs.WellMade.{WellMade, lost}
 use Rattle.held.specs.PutBack.{put-back-lost}
+use Rattle.held.specs.Blockless.{put-back-none}
 use Rattle.held.specs.Back.{Back, storedFrom}
 use Rattle.held.specs.Holds.{Holds, holds-rewritten, holds-lost, back-romans, romans-back, back-texts, all-back}
 use Rattle.entries.specs.Sized.{Within, StagedWithin, sized}
 use Rattle.blocks.specs.declared.Outside.{Outside}
-use Rattle.blocks.specs.Outside.{HeldFrom, Extra, full-long, half-short}
+use Rattle.blocks.specs.Outside.{HeldFrom, Extra, none-held, full-long, half-short, symbols}
 
 -- a text of n symbols at `at`, between whose marks the blocks of h are to be put back
 pub record Marked (w : List ℕ) (at n texts used : ℕ) (h : Held) : Type 0 where
@@ -83,6 +83,21 @@ module _ {w : List ℕ} {p : Progress} {texts used from n : ℕ} {h : Held} (car
   lost-read q =
       sym (holds-lost (marked .holds) (marked .made))
       ∙ ap (λ k. hasMark (part blocksAt used w) || noted (order 0 k (part from n w)) (part from n w)) (sym (marked .many)) ∙ sym q
+
+  -- no block is held
+  pub back-none : used ≡ 0 → Answered w w p (Text from n) (λ t. putBack (withText h t))
+  back-none z =
+      let many = symbols (marked .holds) (marked .made) in
+      let none = none-held (marked .made) (omega arith) in
+      let same = ap₂ (λ texts romans. heldOf (part from n w) texts romans) (none .0) (none .1) in
+      record {
+        answer = sym (ap (λ q. shown q w then (λ t. putBack (withText h t))) e ∙ ap putBack same ∙ put-back-none (part from n w) (subst WellMade same (marked .made)));
+        long = refl;
+        placed = placed-text (carries .ready) e;
+      }
+    where
+      heldOf : List ℕ → List (List ℕ) → List (List ℕ) → Held
+      heldOf s texts romans = record { text = s; texts = texts; romans = romans }
 
   -- number 6
   pub back-lost : lost (withText h (part from n w)) ≡ true → Answered w w p (Refused LostBlock) (λ t. putBack (withText h t))

@@ -5,14 +5,14 @@
 -- Assumes nothing.
 use mathlib.Core.Path.{_≡_, refl, sym, ap, _∙_, subst}
 use mathlib.Core.Bool.{false}
-use mathlib.Core.List.{List, [], _∷_, _++_, append-nil}
+use mathlib.Core.List.{List, [], _∷_}
 use mathlib.Core.Logic.{_⊎_, inl, inr, ⊎-elim}
 use Prim.Native.Nat.{ℕ, _+_, _-_, _*_, _/_, _≤_}
 use native.Mathlib.Omega.{arith}
-use lib.ListN.{length, drop, length-append}
-use Rattle.spec.specs.Symbols.{bytes, textMark, romanMark}
-use Rattle.spec.specs.Held.{Held, withText, holdTexts, holdBoth, inFull, filled}
-use Rattle.text.specs.Parts.{part, length-part}
+use lib.ListN.{length, length-append}
+use Rattle.spec.specs.Symbols.{bytes, contains, textMark, romanMark}
+use Rattle.spec.specs.Held.{Held, holdTexts, holdBoth, inFull, filled}
+use Rattle.text.specs.Parts.{part, length-part, whole-part}
 use Rattle.text.specs.Writer.{appended-long}
 use Rattle.text.specs.Stage.{Ready, Placed, placed-text, placed-fits, placed-regions}
 use Rattle.text.specs.declared.Progress.{Progress}
@@ -22,7 +22,9 @@ use Rattle.held.specs.Marks.{hasMark, joined}
 use Rattle.held.specs.WellMade.{Every, Plain, Enclosing, WellMade, joined-append}
 use Rattle.held.specs.InFull.{in-full-length, text-marks-left, filled-length}
 use Rattle.held.specs.Holding.{hold-texts-made, hold-both-made}
-use Rattle.held.specs.Limits.{hold-texts-full, hold-both-full, texts-few}
+use Rattle.held.specs.Blockless.{hold-texts-none, hold-both-none}
+use Rattle.held.specs.Keeping.{keeps-none}
+use Rattle.held.specs.Limits.{hold-texts-full, hold-both-full}
 use Rattle.held.specs.Filing.{HeldOut}
 use Rattle.held.specs.HoldOut.{Hold, takenFrom}
 use Rattle.held.specs.Holds.{Holds, holds-texts, holds-both}
@@ -74,6 +76,14 @@ module _ {h : Held} (made : WellMade h) where
   romans-long : length (h .romans) ≤ length (joined (h .romans))
   romans-long = joined-long Enclosing enclosing-long (h .romans) (made .romans)
 
+  -- without a symbol there is no block
+  pub none-held : length (joined (h .texts)) + length (joined (h .romans)) ≡ 0 → (h .texts ≡ []) × (h .romans ≡ [])
+  none-held e = let t = texts-long in let r = romans-long in (empty (h .texts) (omega arith), empty (h .romans) (omega arith))
+    where
+      empty : (bs : List (List ℕ)) → length bs ≡ 0 → bs ≡ []
+      empty [] z = refl
+      empty (b ∷ bs) z = absurd (omega arith)
+
   -- the length with held blocks in full
   pub full-long : (extra : ℕ) → Extra h extra → length (inFull h) ≡ length (h .text) + extra
   full-long extra e = let l = in-full-length made in omega arith
@@ -88,7 +98,7 @@ module _ {w′ : List ℕ} {at : ℕ} {m : Marked} {h : Held} (holds : Holds w�
   blocks : m .filed / 4 ≡ length (h .texts) + length (h .romans)
   blocks = let f = holds .filed in let l = length-append (h .texts) (h .romans) in omega arith
 
-  symbols : m .used ≡ length (joined (h .texts)) + length (joined (h .romans))
+  pub symbols : m .used ≡ length (joined (h .texts)) + length (joined (h .romans))
   symbols = holds .used ∙ ap length (joined-append (h .texts) (h .romans)) ∙ length-append (joined (h .texts)) (joined (h .romans))
 
   -- places are fewer than bytes
@@ -147,6 +157,24 @@ module _ {w : List ℕ} {from n : ℕ} (able : Holdable w from n) where
   short : length (part from n w) ≤ 8192
   short = let l = source-long in let p = placed .1 in omega arith
 
+  -- there is no `\text` block
+  pub texts-none : contains (bytes "\\text{") (part from (from + n - from) w) ≡ false → HeldFrom w w (record { at = from; len = n; texts = 0; used = 0; extra = 0 }) (holdTexts (part from n w))
+  unfolding joined
+  texts-none e =
+      let none = hold-texts-none (part from n w) (sym (ap (contains (bytes "\\text{")) (whole-part from n w)) ∙ e) in
+      let size = placed .1 in
+      subst (HeldFrom w w (record { at = from; len = n; texts = 0; used = 0; extra = 0 })) (sym none)
+      (record {
+        filed = 0;
+        holds = record { text = refl; short = size; keeps = keeps-none w (able .ready .long); used = refl; filed = refl };
+        made = subst WellMade none (hold-texts-made (part from n w) (able .free));
+        placed = placed .0;
+        texts = refl;
+        extra = refl;
+        within = omega arith;
+        long = refl;
+      })
+
   module _
       {w′ : List ℕ} {m : Marked}
       (h : HeldOut w w′ (8192 - from) 0 0 (m .len) (m .used) (m .filed) (takenFrom (bytes "\\text{") textMark (part from n w) .left) (takenFrom (bytes "\\text{") textMark (part from n w) .blocks))
@@ -174,42 +202,67 @@ module _ {w : List ℕ} {from n : ℕ} (able : Holdable w from n) where
           let s = short in
           held-counted first-holds first-made (⊎-elim (λ z. inr (omega arith)) (λ z. inl (omega arith)) (placed .0)) first-texts (omega arith) first-long
 
-      -- ---- the second
-      pub hold-second : Hold w′ (8192 - from) (m .len) from (m .used) (m .filed)
-      hold-second =
-          let l = first-holds .keeps .long in
-          let size = first-holds .short in
-          let u = first-holds .used in let few = first-holds .keeps .few in
-          let f = first-holds .filed in let small = first-holds .keeps .short in
-          record {
-            long = l;
-            source = ⊎-elim (λ z. omega arith) (λ z. omega arith) (placed .0);
-            region = ⊎-elim (λ z. omega arith) (λ z. omega arith) (placed .0);
-            apart = ⊎-elim (λ z. inr (omega arith)) (λ z. inl (omega arith)) (placed .0);
-            short = size;
-            few = omega arith;
-            small = omega arith;
-          }
+  -- ---- the second, of what the first has left
+  module _ {w′ : List ℕ} {t : Outside} (first : HeldFrom w w′ t (holdTexts (part from n w))) where
+    pub second-fits : t .at + t .len ≤ 16384
+    second-fits = let s = first .holds .short in ⊎-elim (λ z. omega arith) (λ z. omega arith) (first .placed)
 
-      module _
-          {w″ : List ℕ} {b : Marked}
-          (g : HeldOut w′ w″ from (m .used) (m .filed) (b .len) (b .used) (b .filed) (takenFrom (bytes "\\mathrm{") romanMark (part (8192 - from) (m .len) w′) .left) (takenFrom (bytes "\\mathrm{") romanMark (part (8192 - from) (m .len) w′) .blocks))
-        where
-          second-holds : Holds w″ from b (holdBoth (part from n w))
-          second-holds = holds-both (part from n w) (able .free) short first-holds hold-second g
+    pub second-low : t .at ≤ 8192
+    second-low = ⊎-elim (λ z. omega arith) (λ z. omega arith) (first .placed)
 
-          second-made : WellMade (holdBoth (part from n w))
-          second-made = hold-both-made (part from n w) (able .free)
+    -- there is no `\mathrm` block
+    pub both-none : contains (bytes "\\mathrm{") (part (t .at) (t .at + t .len - t .at) w′) ≡ false → HeldFrom w w′ t (holdBoth (part from n w))
+    both-none e =
+        let text = whole-part (t .at) (t .len) w′ ∙ first .holds .text in
+        subst (HeldFrom w w′ t) (sym (hold-both-none (part from n w) (sym (ap (contains (bytes "\\mathrm{")) text) ∙ e))) first
 
-          pub second-extra : b .filed / 4 ≤ b .used
-          second-extra = extra-fits second-holds second-made
+    -- only `\text` blocks have been filed
+    four : first .filed ≡ 4 * t .texts
+    unfolding holdTexts
+    four =
+        let f = first .holds .filed in let t = first .texts in let l = length-append (holdTexts (part from n w) .texts) [] in
+        omega arith
 
-          second-texts : m .filed / 4 ≡ length (holdBoth (part from n w) .texts)
-          unfolding holdBoth
-          second-texts = first-texts
+    abbrev filedTexts : Marked
+    filedTexts = record { len = t .len; used = t .used; filed = 4 * t .texts }
 
-          pub both-counted : HeldFrom w w″ (record { at = from; len = b .len; texts = m .filed / 4; used = b .used; extra = b .used - b .filed / 4 }) (holdBoth (part from n w))
-          both-counted =
-              let full = ap length (hold-both-full (part from n w) (able .free)) in
-              let s = short in
-              held-counted second-holds second-made (placed .0) second-texts (omega arith) (held-long g ∙ first-long)
+    first-held : Holds w′ (t .at) filedTexts (holdTexts (part from n w))
+    first-held = subst (λ f. Holds w′ (t .at) (record { len = t .len; used = t .used; filed = f }) (holdTexts (part from n w))) four (first .holds)
+
+    pub hold-second : Hold w′ (t .at) (t .len) (8192 - t .at) (t .used) (4 * t .texts)
+    hold-second =
+        let s = first-held .short in
+        let u = first-held .used in let few = first-held .keeps .few in
+        let f = first-held .filed in let small = first-held .keeps .short in
+        record {
+          long = first-held .keeps .long;
+          source = second-fits;
+          region = ⊎-elim (λ z. omega arith) (λ z. omega arith) (first .placed);
+          apart = ⊎-elim (λ z. inl (omega arith)) (λ z. inr (omega arith)) (first .placed);
+          short = s;
+          few = omega arith;
+          small = omega arith;
+        }
+
+    module _
+        {w″ : List ℕ} {m : Marked}
+        (g : HeldOut w′ w″ (8192 - t .at) (t .used) (4 * t .texts) (m .len) (m .used) (m .filed) (takenFrom (bytes "\\mathrm{") romanMark (part (t .at) (t .len) w′) .left) (takenFrom (bytes "\\mathrm{") romanMark (part (t .at) (t .len) w′) .blocks))
+      where
+        second-holds : Holds w″ (8192 - t .at) m (holdBoth (part from n w))
+        second-holds = holds-both (part from n w) (able .free) short first-held hold-second g
+
+        second-made : WellMade (holdBoth (part from n w))
+        second-made = hold-both-made (part from n w) (able .free)
+
+        pub second-extra : m .filed / 4 ≤ m .used
+        second-extra = extra-fits second-holds second-made
+
+        second-texts : t .texts ≡ length (holdBoth (part from n w) .texts)
+        unfolding holdBoth
+        second-texts = first .texts
+
+        pub both-counted : HeldFrom w w″ (record { at = 8192 - t .at; len = m .len; texts = t .texts; used = m .used; extra = m .used - m .filed / 4 }) (holdBoth (part from n w))
+        both-counted =
+            let full = ap length (hold-both-full (part from n w) (able .free)) in
+            let s = short in
+            held-counted second-holds second-made (⊎-elim (λ z. inr (omega arith)) (λ z. inl (omega arith)) (first .placed)) second-texts (omega arith) (held-long g ∙ first .long)

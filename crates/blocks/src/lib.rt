@@ -17,11 +17,21 @@ pub struct Outside {
     pub extra: usize,
 }
 
-// Holds `\text{..}` blocks out.
+// Holds `\text{..}` blocks out. Where there is none, the text stays where it is.
 pub fn hold_texts(work: &mut [u8], from: usize, n: usize) -> Outside
     requires { ⌜ Holdable (now work) from n ⌝ }
     ensures { λ r. ⌜ HeldFrom (now (work .entry)) (now (work .exit)) r (holdTexts (part from n (now (work .entry)))) ⌝ }
 {
+    let end = from + n;
+    if !text::contains(&work[from..end], b"\\text{") {
+        return Outside {
+            at: from,
+            len: n,
+            texts: 0,
+            used: 0,
+            extra: 0,
+        };
+    }
     let to = text::CAP - from;
     let m = held::hold_out(work, from, n, to, b"\\text{", held::TEXT, 0, 0);
     Outside {
@@ -38,28 +48,35 @@ pub fn hold_both(work: &mut [u8], from: usize, n: usize) -> Outside
     requires { ⌜ Holdable (now work) from n ⌝ }
     ensures { λ r. ⌜ HeldFrom (now (work .entry)) (now (work .exit)) r (holdBoth (part from n (now (work .entry)))) ⌝ }
 {
-    let to = text::CAP - from;
-    let m = held::hold_out(work, from, n, to, b"\\text{", held::TEXT, 0, 0);
-    let b = held::hold_out(
+    let first = hold_texts(work, from, n);
+    let at = first.at;
+    let len = first.len;
+    let texts = first.texts;
+    let end = at + len;
+    if !text::contains(&work[at..end], b"\\mathrm{") {
+        return first;
+    }
+    let to = text::CAP - at;
+    let m = held::hold_out(
         work,
+        at,
+        len,
         to,
-        m.len,
-        from,
         b"\\mathrm{",
         held::ROMAN,
-        m.used,
-        m.filed,
+        first.used,
+        4 * texts,
     );
     Outside {
-        at: from,
-        len: b.len,
-        texts: m.filed / 4,
-        used: b.used,
-        extra: b.used - b.filed / 4,
+        at: to,
+        len: m.len,
+        texts,
+        used: m.used,
+        extra: m.used - m.filed / 4,
     }
 }
 
-// Puts every block back to its place, or says that the Rust loses one: number 6.
+// Puts every block back to its place, or says that the Rust loses one: number 6. Where none is held, the text stays where it is.
 pub fn put_all_back(work: &mut [u8], text: Progress, texts: usize, used: usize) -> Progress
     requires { ⌜ Carried (now work) text texts used ⌝ }
     ensures { λ r. ⌜ ((h : Held) → Carries (now (work .entry)) text texts used h → Answered (now (work .entry)) (now (work .exit)) text r (λ t. putBack (withText h t))) ⌝ }
@@ -67,6 +84,9 @@ pub fn put_all_back(work: &mut [u8], text: Progress, texts: usize, used: usize) 
     let Progress::Text(from, n) = text else {
         return text;
     };
+    if used == 0 {
+        return text;
+    }
     if held::lost(work, from, n, texts, used) {
         return Progress::Refused(Refusal::LostBlock);
     }

@@ -6,11 +6,11 @@
 use mathlib.Core.Path.{_≡_, refl, sym, ap, _∙_, subst}
 use mathlib.Core.Bool.{Bool, true, false, cond, true≢false}
 use mathlib.Core.List.{List, [], _∷_}
-use mathlib.Core.Option.{Option, some}
-use Prim.Native.Nat.{ℕ, _+_, _-_, _≤_, _<_}
+use mathlib.Core.Option.{some}
+use Prim.Native.Nat.{ℕ, _+_, _-_, _<_}
 use native.Mathlib.Omega.{arith}
 use lib.Dec.{eqb, ltb}
-use lib.ListN.{length, length-take}
+use lib.ListN.{length}
 use borrow.Author.Tests.{eq-eqb, ne-eqb}
 use Rattle.spec.specs.Sweep.{sweep}
 use Rattle.spec.specs.Result.{Result, passed, refused, _then_, mostSymbols}
@@ -18,14 +18,14 @@ use Rattle.spec.specs.Held.{Held, withText, heldStage, holdTexts, putBack}
 use Rattle.spec.specs.Table.{Definition, faultyName, definitions, byLength}
 use Rattle.spec.specs.Definitions.{defined, applyDefinition, applyDefinitions, applyDefinitionsOutsideText}
 use Rattle.spec.specs.Laws.Table.{rearranged-by-length}
-use Rattle.text.specs.Parts.{part, length-part}
+use Rattle.text.specs.Parts.{length-part}
 use Rattle.text.specs.Stage.{Ready, shown}
 use Rattle.text.specs.declared.Progress.{Progress}
 use Rattle.held.specs.WellMade.{WellMade}
 use Rattle.held.specs.Rewriting.{sweep-made}
 use Rattle.held.specs.Instances.{Sound, EverySound, defined-between, sound-table, sound-order, definitions-made}
 use Rattle.entries.specs.Bounded.{Fair}
-use Rattle.entries.specs.Sized.{sized, Within, Applied, StagedWithin, Remaining, then-then}
+use Rattle.entries.specs.Sized.{sized, Within, Applied, StagedWithin, Remaining, remaining-none, remaining-step}
 use Rattle.table.specs.declared.Record.{Record}
 use Rattle.table.specs.declared.order.Cursor.{Cursor}
 use Rattle.table.specs.Reading.{Lies, Short, definitionAt, length-name}
@@ -125,19 +125,10 @@ module _ (table : List ℕ) (c c′ : Cursor) (r : Record) (next : remaining tab
       → StagedWithin w w′ p p′ extra (sizedDefinition extra (definitionAt table r))
       → Left table c′ ds extra w₀ w′ p₀ p′
   unfolding sizedDefinitions
-  left-more {extra = extra} {w = w} {p = p} left a =
+  left-more {extra = extra} left a =
       record {
         sound = sound-both (left .sound) .1;
-        stages = record {
-          rest = ap (λ q. q then sizedDefinitions extra (remaining table c′)) (a .staged .answered .answer)
-              ∙ then-then (shown p w) (sizedDefinition extra (definitionAt table r)) (sizedDefinitions extra (remaining table c′))
-              ∙ ap (λ l. shown p w then sizedDefinitions extra l) (sym next)
-              ∙ left .stages .rest;
-          long = a .staged .answered .long ∙ left .stages .long;
-          placed = a .staged .answered .placed;
-          beyond = a .staged .beyond ∙ left .stages .beyond;
-          within = a .within;
-        };
+        stages = remaining-step (left .stages) (sizedDefinitions extra (remaining table c′)) a (λ s. ap (λ l. sizedDefinitions extra l s) next);
       }
 
 pub left-done : (table : List ℕ) (c : Cursor) (extra : ℕ) → remaining table c ≡ [] → (s : List ℕ) → sizedDefinitions extra (remaining table c) s ≡ passed s
@@ -151,10 +142,10 @@ pub left-none :
     (table : List ℕ) (c : Cursor) (ds : List Definition) (extra : ℕ) {w : List ℕ} {p : Progress} → Begins table c → definitions table ≡ some ds → Ready w p → Within extra p
     → Left table c ds extra w w p p
 left-none table c ds extra {w} {p} begins e ready within =
-    let all = begins .order ds e in
+    let all = sym (begins .order ds e) in
     record {
-      sound = subst EverySound (sym all) (order-sound table ds e);
-      stages = record { rest = ap (λ l. shown p w then sizedDefinitions extra l) all; long = refl; placed = ready .placed; beyond = refl; within = within };
+      sound = subst EverySound all (order-sound table ds e);
+      stages = subst (λ l. Remaining w w p p extra (sizedDefinitions extra (byLength ds)) (sizedDefinitions extra l)) all (remaining-none (sizedDefinitions extra (byLength ds)) ready within);
     }
 
 -- ---- what is held

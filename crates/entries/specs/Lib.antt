@@ -2,3 +2,4 @@
 pub mod Bounded
 pub mod Sized
 pub mod Turns
+pub mod Seen

@@ -87,12 +87,10 @@ module _ {w : List ℕ} {p : Progress} {from n : ℕ} (extra : ℕ) (ready : Rea
   within-text = subst (Within extra) e within
 
   -- ---- the pattern is nowhere in the text
-  pub applied-absent :
-      {pattern : List ℕ} {rule : Rule} {r : Found} → Waits pattern rule
-      → Finds (part from (from + n - from) w) r (find pattern (part from (from + n - from) w)) → r ≡ Nothing
+  pub applied-nowhere :
+      {pattern : List ℕ} {rule : Rule} → Waits pattern rule → find pattern (part from n w) ≡ none
       → Applied w w p (Text from n) extra pattern (sweep rule 0 0)
-  applied-absent {pattern} {rule} waits finds nothing =
-      let absent = ap (find pattern) (sym (whole-part from n w)) ∙ finds-nothing finds nothing in
+  applied-nowhere {pattern} {rule} waits absent =
       let same = sweep-absent waits (part from n w) 0 absent in
       let long = ready .long in let fits = placed-fits ready e in let short : n + extra ≤ mostSymbols = within-text in
       let l = length-part from n w (omega arith) in
@@ -114,6 +112,12 @@ module _ {w : List ℕ} {p : Progress} {from n : ℕ} (extra : ℕ) (ready : Rea
 
       passes : (t : List ℕ) → length t + extra ≤ mostSymbols → judged t ≡ passed t
       passes t h = rw (le-ltb mostSymbols (length t + extra) h)
+
+  pub applied-absent :
+      {pattern : List ℕ} {rule : Rule} {r : Found} → Waits pattern rule
+      → Finds (part from (from + n - from) w) r (find pattern (part from (from + n - from) w)) → r ≡ Nothing
+      → Applied w w p (Text from n) extra pattern (sweep rule 0 0)
+  applied-absent {pattern} waits finds nothing = applied-nowhere waits (ap (find pattern) (sym (whole-part from n w)) ∙ finds-nothing finds nothing)
 
   -- ---- the text has been rewritten to the other region
   pub applied-written :
@@ -193,7 +197,7 @@ pub record Remaining (w₀ w : List ℕ) (p₀ p : Progress) (extra : ℕ) (f g 
 pub remaining-none : {w : List ℕ} {p : Progress} {extra : ℕ} (f : List ℕ → Result (List ℕ)) → Ready w p → Within extra p → Remaining w w p p extra f f
 remaining-none f ready within = record { rest = refl; long = refl; placed = ready .placed; beyond = refl; within = within }
 
-pub then-then : (r : Result (List ℕ)) (f g : List ℕ → Result (List ℕ)) → (r then f then g) ≡ (r then (λ s. f s then g))
+then-then : (r : Result (List ℕ)) (f g : List ℕ → Result (List ℕ)) → (r then f then g) ≡ (r then (λ s. f s then g))
 then-then (passed s) f g = refl
 then-then (refused k) f g = refl
 
@@ -201,22 +205,29 @@ module _ {w₀ w : List ℕ} {p₀ p : Progress} {extra : ℕ} {f g : List ℕ �
   pub remaining-ready : Ready w₀ p₀ → Ready w p
   remaining-ready ready = let l = ready .long in let m = r .long in record { long = omega arith; placed = r .placed }
 
-  pub remaining-more :
-      {w′ : List ℕ} {p′ : Progress} {pattern : List ℕ} {h : List ℕ → List ℕ} (next : List ℕ → Result (List ℕ))
-      → Applied w w′ p p′ extra pattern h → ((s : List ℕ) → g s ≡ (sized extra h s then next))
+  -- the first of them has been done, and `next` are the others
+  pub remaining-step :
+      {w′ : List ℕ} {p′ : Progress} {h : List ℕ → Result (List ℕ)} (next : List ℕ → Result (List ℕ))
+      → StagedWithin w w′ p p′ extra h → ((s : List ℕ) → g s ≡ (h s then next))
       → Remaining w₀ w′ p₀ p′ extra f next
-  remaining-more {h = h} next a step =
+  remaining-step {h = h} next a step =
       record {
-        rest = ap (λ r. r then next) (a .staged .answered .answer) ∙ then-then (shown p w) (sized extra h) next ∙ sym (by (shown p w)) ∙ r .rest;
+        rest = ap (λ r. r then next) (a .staged .answered .answer) ∙ then-then (shown p w) h next ∙ sym (by (shown p w)) ∙ r .rest;
         long = a .staged .answered .long ∙ r .long;
         placed = a .staged .answered .placed;
         beyond = a .staged .beyond ∙ r .beyond;
         within = a .within;
       }
     where
-      by : (r : Result (List ℕ)) → (r then g) ≡ (r then (λ s. sized extra h s then next))
+      by : (r : Result (List ℕ)) → (r then g) ≡ (r then (λ s. h s then next))
       by (passed s) = step s
       by (refused k) = refl
+
+  pub remaining-more :
+      {w′ : List ℕ} {p′ : Progress} {pattern : List ℕ} {h : List ℕ → List ℕ} (next : List ℕ → Result (List ℕ))
+      → Applied w w′ p p′ extra pattern h → ((s : List ℕ) → g s ≡ (sized extra h s then next))
+      → Remaining w₀ w′ p₀ p′ extra f next
+  remaining-more next a step = remaining-step next (record { staged = a .staged; within = a .within }) step
 
   pub remaining-all : ((s : List ℕ) → g s ≡ passed s) → StagedWithin w₀ w p₀ p extra f
   remaining-all done =

@@ -3,8 +3,11 @@
 //
 // While blocks are held out of a text, it counts as longer than it is: `extra` is by how much.
 mod bounds;
+mod presence;
 
 pub use bounds::Bounds;
+pub use presence::is_missing;
+pub use presence::seen;
 use text::Found;
 use text::Progress;
 use text::Refusal;

@@ -3,25 +3,24 @@
 --     holds-texts, holds-both    after one `hold_out`, and after two
 --     holds-rewritten  after a stage that rewrites the text between the marks
 --     holds-lost       what `lost` tests
---     full-counted, holds-full    what `full_len` gives
 --     back-romans, back-texts    `put_back` may be called, and what it gives
 use mathlib.Core.Path.{_≡_, refl, sym, ap, ap₂, _∙_, subst}
 use mathlib.Core.Bool.{false, _||_}
 use mathlib.Core.Logic.{inl}
 use mathlib.Core.List.{List, [], _++_, append-nil}
-use Prim.Native.Nat.{ℕ, _+_, _-_, _*_, _/_, _≤_}
+use Prim.Native.Nat.{ℕ, _+_, _*_, _≤_}
 use native.Mathlib.Omega.{arith}
 use lib.ListN.{length, drop, length-append}
 use Rattle.spec.specs.Symbols.{bytes, textMark, romanMark}
 use Rattle.spec.specs.Held.{Held, withText, holdTexts, holdBoth, filled, inFull}
-use Rattle.text.specs.Parts.{part, length-part}
+use Rattle.text.specs.Parts.{part}
 use Rattle.text.specs.Writer.{Appended, Apart, appended-long, appended-part}
 use Rattle.text.specs.Written.{appended-text, appended-written, wrote-beyond}
 use Rattle.held.specs.declared.Marked.{Marked}
 use Rattle.held.specs.Marks.{hasMark, count, order, joined, has-mark-append}
 use Rattle.held.specs.Noted.{noted}
 use Rattle.held.specs.WellMade.{WellMade, lost, joined-append, plain-joined}
-use Rattle.held.specs.InFull.{in-full-length, text-marks-left, text-shorter}
+use Rattle.held.specs.InFull.{text-marks-left}
 use Rattle.held.specs.Limits.{texts-few, texts-short, both-few, both-short}
 use Rattle.held.specs.Filing.{blocksAt, HeldOut}
 use Rattle.held.specs.HoldOut.{Hold, takenFrom}
@@ -104,22 +103,6 @@ holds-both s free source {w} {w′} {at} {to} {m} {m′} held hold h =
       filed = filed-more texts romans (hold .region) used filed g;
     }
 
--- ---- the length with held blocks in full: it is counted whether or not the text has outgrown its region
-pub record Counted (len used filed : ℕ) (full : List ℕ) : Type 0 where
-  pub enough : filed / 4 ≤ len + used
-  pub length-full : len + used - filed / 4 ≡ length full
-  pub longer : len ≤ length full
-
-pub full-counted :
-    {h : Held} {len used filed : ℕ} → WellMade h → len ≡ length (h .text) → used ≡ length (joined (h .texts ++ h .romans)) → filed ≡ 4 * length (h .texts ++ h .romans)
-    → Counted len used filed (inFull h)
-full-counted {h} {len} {used} {filed} made n u f =
-    let l = in-full-length made in
-    let many = length-append (h .texts) (h .romans) in
-    let all : used ≡ length (joined (h .texts)) + length (joined (h .romans)) = u ∙ ap length (joined-append (h .texts) (h .romans)) ∙ length-append (joined (h .texts)) (joined (h .romans)) in
-    let grows = text-shorter made in
-    record { enough = omega arith; length-full = omega arith; longer = omega arith }
-
 -- ---- with what is held
 module _ {w : List ℕ} {at : ℕ} {m : Marked} {h : Held} (holds : Holds w at m h) where
   pub holds-rewritten :
@@ -139,12 +122,6 @@ module _ {w : List ℕ} {at : ℕ} {m : Marked} {h : Held} (holds : Holds w at m
         ∙ has-mark-append (joined (h .texts)) (joined (h .romans))
         ∙ ap (λ t. t || hasMark (joined (h .romans))) (plain-joined (h .texts) (made .texts)))
         (ap (λ s. noted (order 0 (length (h .texts)) s) s) (holds .text))
-
-    text-long : at + 8192 ≤ blocksAt → m .len ≡ length (h .text)
-    text-long region = let l = holds .keeps .long in let s = holds .short in sym (length-part at (m .len) w (omega arith)) ∙ ap length (holds .text)
-
-    pub holds-full : at + 8192 ≤ blocksAt → Counted (m .len) (m .used) (m .filed) (inFull h)
-    holds-full region = full-counted made (text-long region) (holds .used) (holds .filed)
 
     -- ---- putting back
     module _ {to : ℕ} (source : at + 8192 ≤ blocksAt) (region : to + 8192 ≤ blocksAt) (apart : Apart at (m .len) to 8192) where

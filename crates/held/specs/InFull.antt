@@ -2,7 +2,6 @@
 --     returned          block k for the first mark of a kind, block k + 1 for the next, ..
 --     filled-returned   that is what `filled` gives of a list of blocks
 --     in-full-fill      where no `\mathrm` block holds a mark, the blocks go back by number
---     in-full-free      no mark is left
 --     in-full-length    the length with held blocks in full, by counts alone
 use mathlib.Core.Path.{_≡_, refl, sym, ap, ap₂, _∙_}
 use mathlib.Core.Bool.{Bool, true, false, cond, _||_}
@@ -11,13 +10,12 @@ use Prim.Native.Nat.{ℕ, zero, suc, _+_, _-_, _≤_, _<_}
 use native.Mathlib.Nat.{add-zero, add-suc, suc-add, zero-add}
 use native.Mathlib.Omega.{arith}
 use lib.Dec.{eqb}
-use lib.ListN.{length, drop, length-append}
+use lib.ListN.{length, length-append}
 use borrow.Author.Tests.{eqb-true}
 use Rattle.spec.specs.Symbols.{textMark, romanMark}
 use Rattle.spec.specs.Held.{Held, filled, inFull}
 use Rattle.held.specs.Marks.{isMark, hasMark, count, first, rest, order, fill, blockAt, joined, or-false, not-text-mark, has-mark-append}
-use Rattle.held.specs.Remains.{backslash}
-use Rattle.held.specs.WellMade.{Every, Plain, Enclosing, WellMade, count-append, unmarked-count, count-unmarked, plain-joined, block-append, block-front}
+use Rattle.held.specs.WellMade.{WellMade, count-append, block-append, block-front}
 use Rattle.held.specs.Numbering.{not-both}
 
 unfoldable pub returned : ℕ → (ℕ → List ℕ) → ℕ → List ℕ → List ℕ
@@ -113,25 +111,6 @@ filled-count c mark other (x ∷ s) (b ∷ bs) h = go (eqb x mark) refl h (fille
         same true e = omega arith
         same false e = e
 
--- and stands then only where a block holds it
-filled-own : (mark : ℕ) (s : List ℕ) (bs : List (List ℕ)) → count mark s ≡ length bs → count mark (filled mark bs s) ≡ count mark (joined bs)
-unfolding filled count joined
-filled-own mark [] [] h = refl
-filled-own mark [] (b ∷ bs) h = absurd (omega arith)
-filled-own mark (x ∷ s) [] h = h
-filled-own mark (x ∷ s) (b ∷ bs) h = go (eqb x mark) refl h (filled-own mark s bs) (filled-own mark s (b ∷ bs))
-  where
-    go : (t : Bool) → eqb x mark ≡ t → cond t (suc (count mark s)) (count mark s) ≡ suc (length bs)
-        → (count mark s ≡ length bs → count mark (filled mark bs s) ≡ count mark (joined bs))
-        → (count mark s ≡ suc (length bs) → count mark (filled mark (b ∷ bs) s) ≡ count mark (b ++ joined bs))
-        → count mark (elim t as (λ _. List ℕ) [ true ↦ b ++ filled mark bs s | false ↦ x ∷ filled mark (b ∷ bs) s ]) ≡ count mark (b ++ joined bs)
-    go true p h one more =
-        let here = one (omega arith) in
-        let y = count-append mark b (filled mark bs s) in
-        let z = count-append mark b (joined bs) in
-        omega arith
-    go false p h one more = rw p (more h)
-
 pub filled-length : (mark : ℕ) (s : List ℕ) (bs : List (List ℕ)) → count mark s ≡ length bs → length (filled mark bs s) + length bs ≡ length s + length (joined bs)
 unfolding filled count joined
 filled-length mark [] [] h = refl
@@ -150,62 +129,10 @@ filled-length mark (x ∷ s) (b ∷ bs) h = go (eqb x mark) h (filled-length mar
         omega arith
     go false h one more = let e = more h in omega arith
 
-abbrev Begun : List ℕ → Type 0
-Begun b = b ≡ backslash ∷ drop 1 b
-
-plain-begun : (bs : List (List ℕ)) → Every Plain bs → Every Begun bs
-unfolding Every
-plain-begun [] h = tt
-plain-begun (b ∷ bs) h = (h .0 .begins, plain-begun bs (h .1))
-
-enclosing-begun : (bs : List (List ℕ)) → Every Enclosing bs → Every Begun bs
-unfolding Every
-enclosing-begun [] h = tt
-enclosing-begun (b ∷ bs) h = (h .0 .begins, enclosing-begun bs (h .1))
-
-enclosing-count : (bs : List (List ℕ)) → Every Enclosing bs → count romanMark (joined bs) ≡ 0
-unfolding Every joined count
-enclosing-count [] h = refl
-enclosing-count (b ∷ bs) h = let l = count-append romanMark b (joined bs) in let here = h .0 .no-roman in let more = enclosing-count bs (h .1) in omega arith
-
--- a block is no shorter than its mark
-filled-grows : (mark : ℕ) (s : List ℕ) (bs : List (List ℕ)) → Every Begun bs → length s ≤ length (filled mark bs s)
-unfolding filled Every
-filled-grows mark [] bs h = omega arith
-filled-grows mark (x ∷ s) [] h = omega arith
-filled-grows mark (x ∷ s) (b ∷ bs) h = go (eqb x mark) (filled-grows mark s bs (h .1)) (filled-grows mark s (b ∷ bs) h)
-  where
-    go : (t : Bool) → length s ≤ length (filled mark bs s) → length s ≤ length (filled mark (b ∷ bs) s)
-        → suc (length s) ≤ length {A = ℕ} (elim t as (λ _. List ℕ) [ true ↦ b ++ filled mark bs s | false ↦ x ∷ filled mark (b ∷ bs) s ])
-    go true one more = let l = length-append b (filled mark bs s) in let k = ap length (h .0) in omega arith
-    go false one more = omega arith
-
 module _ {h : Held} (made : WellMade h) where
-  -- with the first kind in full the text is no longer than with both
-  pub romans-shorter : length (filled romanMark (h .romans) (h .text)) ≤ length (inFull h)
-  unfolding inFull
-  romans-shorter = filled-grows textMark (filled romanMark (h .romans) (h .text)) (h .texts) (plain-begun (h .texts) (made .texts))
-
-  pub text-shorter : length (h .text) ≤ length (inFull h)
-  text-shorter = let first = filled-grows romanMark (h .text) (h .romans) (enclosing-begun (h .romans) (made .romans)) in let second = romans-shorter in omega arith
-
   -- after the first kind has gone back, as many `\text` marks stand as there are `\text` blocks
   pub text-marks-left : count textMark (filled romanMark (h .romans) (h .text)) ≡ length (h .texts)
   text-marks-left = filled-count textMark romanMark refl (h .text) (h .romans) (made .roman-marks) ∙ made .text-marks
-
-  -- with all blocks in full no mark is left
-  pub in-full-free : hasMark (inFull h) ≡ false
-  unfolding inFull
-  in-full-free =
-      let s = filled romanMark (h .romans) (h .text) in
-      let none = unmarked-count (joined (h .texts)) (plain-joined (h .texts) (made .texts)) in
-      let no-text = none .0 in
-      let no-roman = none .1 in
-      let text = filled-own textMark s (h .texts) text-marks-left in
-      let roman = filled-count romanMark textMark refl s (h .texts) text-marks-left in
-      let within = filled-own romanMark (h .text) (h .romans) (made .roman-marks) in
-      let inner = enclosing-count (h .romans) (made .romans) in
-      count-unmarked (inFull h) (omega arith) (omega arith)
 
   pub in-full-fill :
       hasMark (joined (h .romans)) ≡ false

@@ -15,6 +15,7 @@ pub mod Numbering
 pub mod InFull
 pub mod PutBack
 pub mod TakeOut
+pub mod Blockless
 pub mod Holding
 pub mod Rewriting
 pub mod Instances
@@ -25,4 +26,3 @@ pub mod Reading
 pub mod Limits
 pub mod Keeping
 pub mod Holds
-pub mod Restoring

@@ -1,12 +1,12 @@
 // Putting blocks back.
 ghost use mathlib.Core.Path.{_≡_};
-ghost use Prim.Native.Nat.{_+_, _-_, _/_, _^_, _<_, _≤_};
+ghost use Prim.Native.Nat.{_+_, _≤_};
 ghost use lib.ListN.{length};
 ghost use Rattle.spec.specs.Held.{filled};
 ghost use Rattle.text.specs.Parts.{part};
 ghost use Rattle.text.specs.Writer.{Room, Appended};
 ghost use Rattle.held.specs.Marks.{count};
-ghost use Rattle.held.specs.Filing.{blocksAt, blocksRoom};
+ghost use Rattle.held.specs.Filing.{blocksAt};
 ghost use Rattle.held.specs.Back.{Filed, Back, storedAt, storedFrom};
 
 // Appends block k, which is found by its place.
@@ -42,13 +42,4 @@ pub fn put_back(work: &mut [u8], from: usize, n: usize, to: usize, mark: u8, fir
         }
     }
     len
-}
-
-// The length of the text with every block at its place: each block stands for its mark. A text that has grown too long is
-// counted too.
-pub fn full_len(len: usize, used: usize, filed: usize) -> usize
-    requires { ⌜ (len + used < 2 ^ 32) × (filed / 4 ≤ len + used) ⌝ }
-    ensures { λ r. ⌜ r ≡ len + used - filed / 4 ⌝ }
-{
-    len + used - filed / 4
 }

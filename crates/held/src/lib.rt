@@ -5,16 +5,11 @@
 mod back;
 mod hold;
 mod losing;
-mod whole;
 
-pub use back::full_len;
 pub use back::put_back;
 pub use hold::hold_out;
 pub use losing::has_mark;
 pub use losing::lost;
-pub use whole::hold_both;
-pub use whole::hold_texts;
-pub use whole::restore;
 ghost use mathlib.Core.Path.{_≡_};
 ghost use Prim.Native.Nat.{_<_};
 
@@ -38,12 +33,6 @@ pub struct Marked {
     pub len: usize,
     pub used: usize,
     pub filed: usize,
-}
-
-// The same, and how many of its blocks are `\text` blocks.
-pub struct Both {
-    pub marked: Marked,
-    pub texts: usize,
 }
 
 // A byte as a number.

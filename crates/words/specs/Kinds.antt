@@ -5,22 +5,22 @@
 use mathlib.Core.Path.{_≡_, refl, sym, ap, _∙_, subst, subst₂}
 use mathlib.Core.Bool.{Bool, true, false, cond, _||_}
 use mathlib.Core.List.{List, [], _∷_}
-use Prim.Native.Nat.{ℕ, _+_, _≤_, _<_}
-use lib.ListN.{length, getD, drop, drop-of-length-le}
-use Rattle.spec.specs.Symbols.{is, any}
+use Prim.Native.Nat.{ℕ, _+_, _-_, _≤_, _<_}
+use Rattle.spec.specs.Symbols.{is}
 use Rattle.spec.specs.Sweep.{Rule, sweep, replacing, replace}
 use Rattle.spec.specs.Result.{Result, passed, refused, _then_, stage}
 use Rattle.spec.specs.Rows.{Row}
 use Rattle.spec.specs.Words.{greek, word, capital, literal, wordOrLiteral, replaceRows, capitals}
-use Rattle.spec.specs.Laws.Symbols.{drop-step}
 use Rattle.entries.specs.declared.bounds.Bounds.{Bounds}
 use Rattle.entries.specs.declared.bounds.Bounds.the-variants as around
-use Rattle.entries.specs.Bounded.{bounded, literal-bounded, greek-bounded, word-bounded, capital-bounded}
-use Rattle.entries.specs.Sized.{sized, sized-none, Applied, applied-alike}
+use Rattle.text.specs.Stage.{Ready}
+use Rattle.entries.specs.Bounded.{bounded, bounded-waits, literal-bounded, greek-bounded, word-bounded, capital-bounded}
+use Rattle.entries.specs.Sized.{sized, sized-none, Within, Applied, applied-alike}
+use Rattle.entries.specs.Seen.{SeenIn, missing, applied-missing}
 use Rattle.text.specs.declared.Progress.{Progress}
 use Rattle.words.specs.declared.Kind.{Kind}
 use Rattle.words.specs.declared.Kind.the-variants.{Literal, Greek, Word, Capital}
-use Rattle.words.specs.Rows.{rowAt, rowsBetween, row-next, rows-done}
+use Rattle.words.specs.Rows.{rowAt, rowsFrom, row-next, rows-done}
 
 abbrev pub ruleOf : Kind → Row → Rule
 ruleOf Literal r = replacing (r .typst) (r .latex)
@@ -44,30 +44,41 @@ rule-bounded Word r s = go (literal (r .typst))
     go true = literal-bounded (r .typst) (r .latex) s
     go false = word-bounded r s
 
--- row k, as the code applies it
+-- a row, as the code applies it
 pub row-applied :
-    (kind : Kind) (k : ℕ) {w w′ : List ℕ} {p p′ : Progress} {extra : ℕ} {b : Bounds} {typst latex : List ℕ}
-    → typst ≡ rowAt k .typst → latex ≡ rowAt k .latex → b ≡ boundsOf kind typst
+    (kind : Kind) (row : Row) {w w′ : List ℕ} {p p′ : Progress} {extra : ℕ} {b : Bounds} {typst latex : List ℕ}
+    → typst ≡ row .typst → latex ≡ row .latex → b ≡ boundsOf kind typst
     → Applied w w′ p p′ extra typst (sweep (bounded b typst latex) 0 0)
-    → Applied w w′ p p′ extra (rowAt k .typst) (sweep (ruleOf kind (rowAt k)) 0 0)
-row-applied kind k {w} {w′} {p} {p′} {extra} {b} {typst} {latex} e f g a =
-    applied-alike (sweep (ruleOf kind (rowAt k)) 0 0) (rule-bounded kind (rowAt k))
+    → Applied w w′ p p′ extra (row .typst) (sweep (ruleOf kind row) 0 0)
+row-applied kind row {w} {w′} {p} {p′} {extra} {b} {typst} {latex} e f g a =
+    applied-alike (sweep (ruleOf kind row) 0 0) (rule-bounded kind row)
     (subst₂ (λ t l. Applied w w′ p p′ extra t (sweep (bounded (boundsOf kind t) t l) 0 0)) e f
     (subst (λ c. Applied w w′ p p′ extra typst (sweep (bounded c typst latex) 0 0)) g a))
+
+-- a row that is passed over, since a byte of its name does not occur
+pub row-missing :
+    (kind : Kind) (row : Row) {w : List ℕ} {p : Progress} {table : List ℕ} (extra : ℕ) → Ready w p → Within extra p → SeenIn table w p
+    → missing table (row .typst) ≡ true
+    → Applied w w p p extra (row .typst) (sweep (ruleOf kind row) 0 0)
+row-missing kind row extra ready within seen e =
+    applied-alike (sweep (ruleOf kind row) 0 0) (rule-bounded kind row)
+    (applied-missing extra ready within (bounded-waits (boundsOf kind (row .typst)) (row .typst) (row .latex)) seen e)
 
 -- ---- the rows of a table
 unfoldable pub sizedRows : ℕ → (Row → Rule) → List Row → List ℕ → Result (List ℕ)
 sizedRows extra rule [] s = passed s
 sizedRows extra rule (r ∷ rs) s = sized extra (sweep (rule r) 0 0) s then sizedRows extra rule rs
 
-module _ (extra : ℕ) (rule : Row → Rule) (k end : ℕ) (s : List ℕ) where
-  pub rows-step : k < end → end ≤ 108 → sizedRows extra rule (rowsBetween k end) s ≡ (sized extra (sweep (rule (rowAt k)) 0 0) s then sizedRows extra rule (rowsBetween (k + 1) end))
+module _ (extra : ℕ) (rule : Row → Rule) (table : List ℕ) (k n : ℕ) (s : List ℕ) where
+  pub rows-step :
+      k < n
+      → sizedRows extra rule (rowsFrom table k (n - k)) s ≡ (sized extra (sweep (rule (rowAt table k)) 0 0) s then sizedRows extra rule (rowsFrom table (k + 1) (n - (k + 1))))
   unfolding sizedRows
-  rows-step h l = ap (λ rs. sizedRows extra rule rs s) (row-next k end h l)
+  rows-step h = ap (λ rs. sizedRows extra rule rs s) (row-next table k n h)
 
-  pub rows-end : end ≤ k → sizedRows extra rule (rowsBetween k end) s ≡ passed s
+  pub rows-end : n ≤ k → sizedRows extra rule (rowsFrom table k (n - k)) s ≡ passed s
   unfolding sizedRows
-  rows-end h = ap (λ rs. sizedRows extra rule rs s) (rows-done k end h)
+  rows-end h = ap (λ rs. sizedRows extra rule rs s) (rows-done table k n h)
 
 -- with nothing held, they are the definitions' stages
 then-same : (r r′ : Result (List ℕ)) (f g : List ℕ → Result (List ℕ)) → r ≡ r′ → ((s : List ℕ) → f s ≡ g s) → (r then f) ≡ (r′ then g)
@@ -91,17 +102,3 @@ rows-capital (r ∷ rs) s =
 -- ---- the test for words that are replaced wherever they stand
 abbrev pub special : ℕ → Bool
 special x = is "(" x || (is "|" x || is "." x)
-
--- none of the first i symbols is one
-pub record Passed (w : List ℕ) (i : ℕ) : Type 0 where
-  pub so-far : literal w ≡ any special (drop i w)
-
-module _ {w : List ℕ} {i : ℕ} (p : Passed w i) where
-  pub passed-met : i < length w → special (getD w i 0) ≡ true → true ≡ literal w
-  passed-met h e = sym (p .so-far ∙ rw (drop-step w i h, any, e))
-
-  pub passed-more : i < length w → special (getD w i 0) ≡ false → Passed w (i + 1)
-  passed-more h e = record { so-far = p .so-far ∙ rw (drop-step w i h, any, e) }
-
-  pub passed-all : length w ≤ i → false ≡ literal w
-  passed-all h = sym (p .so-far ∙ rw (drop-of-length-le w h))

@@ -23,7 +23,6 @@ use Rattle.entries.specs.Sized.{sized, StagedWithin}
 use Rattle.blocks.specs.Outside.{Extra}
 use Rattle.blocks.specs.Carried.{held-sized}
 use Rattle.words.specs.declared.Kind.the-variants.{Greek, Word}
-use Rattle.words.specs.Rows.{rowsBetween, greek-between as greek-rows, words-between as word-rows}
 use Rattle.words.specs.Kinds.{ruleOf, sizedRows}
 
 -- the text is put between the marks again
@@ -55,45 +54,37 @@ module _ (rule : Row → Rule) (each : (r : Row) → fineRow r ≡ true → Betw
 
 -- ---- both tables
 abbrev pub bothRows : ℕ → List ℕ → Result (List ℕ)
-bothRows extra s = sizedRows extra (ruleOf Greek) (rowsBetween 20 50) s then sizedRows extra (ruleOf Word) (rowsBetween 50 106)
+bothRows extra s = sizedRows extra (ruleOf Greek) greekLetters s then sizedRows extra (ruleOf Word) wordMappings
 
 abbrev pub heldBoth : Held → Result Held
-heldBoth h = heldRows (ruleOf Greek) (rowsBetween 20 50) h then heldRows (ruleOf Word) (rowsBetween 50 106)
-
-greek-rows-fine : fineRows (rowsBetween 20 50) ≡ true
-greek-rows-fine = ap fineRows greek-rows ∙ greek-fine
-
-word-rows-fine : fineRows (rowsBetween 50 106) ≡ true
-word-rows-fine = ap fineRows word-rows ∙ words-fine
+heldBoth h = heldRows (ruleOf Greek) greekLetters h then heldRows (ruleOf Word) wordMappings
 
 module _ (extra : ℕ) (h : Held) (e : Extra h extra) (made : WellMade h) where
   pub words-held : heldBoth h ≡ (bothRows extra (h .text) then wrapped h)
   words-held =
-      ap (λ q. q then heldRows (ruleOf Word) (rowsBetween 50 106)) (rows-held (ruleOf Greek) greek-between extra (rowsBetween 20 50) greek-rows-fine h e made)
-      ∙ go (sizedRows extra (ruleOf Greek) (rowsBetween 20 50) (h .text)) refl
+      ap (λ q. q then heldRows (ruleOf Word) wordMappings) (rows-held (ruleOf Greek) greek-between extra greekLetters greek-fine h e made)
+      ∙ go (sizedRows extra (ruleOf Greek) greekLetters (h .text)) refl
     where
-      go : (q : Result (List ℕ)) → sizedRows extra (ruleOf Greek) (rowsBetween 20 50) (h .text) ≡ q
-          → (q then wrapped h then heldRows (ruleOf Word) (rowsBetween 50 106)) ≡ (q then sizedRows extra (ruleOf Word) (rowsBetween 50 106) then wrapped h)
+      go : (q : Result (List ℕ)) → sizedRows extra (ruleOf Greek) greekLetters (h .text) ≡ q
+          → (q then wrapped h then heldRows (ruleOf Word) wordMappings) ≡ (q then sizedRows extra (ruleOf Word) wordMappings then wrapped h)
       go (passed t) same =
-          rows-held (ruleOf Word) word-between extra (rowsBetween 50 106) word-rows-fine (withText h t) e
-          (rows-kept (ruleOf Greek) greek-between extra (rowsBetween 20 50) greek-rows-fine h e made same)
+          rows-held (ruleOf Word) word-between extra wordMappings words-fine (withText h t) e
+          (rows-kept (ruleOf Greek) greek-between extra greekLetters greek-fine h e made same)
       go (refused n) same = refl
 
   pub words-kept : (t : List ℕ) → bothRows extra (h .text) ≡ passed t → WellMade (withText h t)
-  words-kept t = go (sizedRows extra (ruleOf Greek) (rowsBetween 20 50) (h .text)) refl
+  words-kept t = go (sizedRows extra (ruleOf Greek) greekLetters (h .text)) refl
     where
-      go : (q : Result (List ℕ)) → sizedRows extra (ruleOf Greek) (rowsBetween 20 50) (h .text) ≡ q
-          → (q then sizedRows extra (ruleOf Word) (rowsBetween 50 106)) ≡ passed t → WellMade (withText h t)
+      go : (q : Result (List ℕ)) → sizedRows extra (ruleOf Greek) greekLetters (h .text) ≡ q
+          → (q then sizedRows extra (ruleOf Word) wordMappings) ≡ passed t → WellMade (withText h t)
       go (passed u) same last =
-          rows-kept (ruleOf Word) word-between extra (rowsBetween 50 106) word-rows-fine (withText h u) e
-          (rows-kept (ruleOf Greek) greek-between extra (rowsBetween 20 50) greek-rows-fine h e made same) last
+          rows-kept (ruleOf Word) word-between extra wordMappings words-fine (withText h u) e
+          (rows-kept (ruleOf Greek) greek-between extra greekLetters greek-fine h e made same) last
       go (refused n) same last = refused-not last
 
 pub words-by-held : (s : List ℕ) → convertWords s ≡ (heldBoth (holdBoth s) then putBack)
 unfolding convertWords
-words-by-held s =
-    ap (λ rs. heldRows (ruleOf Greek) rs (holdBoth s) then heldRows (ruleOf Word) wordMappings then putBack) (sym greek-rows)
-    ∙ ap (λ rs. heldRows (ruleOf Greek) (rowsBetween 20 50) (holdBoth s) then heldRows (ruleOf Word) rs then putBack) (sym word-rows)
+words-by-held s = refl
 
 -- ---- one table after the other
 pub within-then :

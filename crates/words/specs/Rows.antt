@@ -1,122 +1,95 @@
--- The tables one behind the other, as the code holds them.
---     allRows, rowAt    the rows, and row k
---     fairRows          no row's texts are empty or too wide: a test over all rows, which antt computes
---     Shows, row-shown  row k, as the code lends it
+-- A table as the code holds it: rows of 36 bytes. A row has a byte for the length of what is typed and 15 bytes for that, and a byte
+-- for the length of its LaTeX and 19 bytes for that.
+--     rowAt, rowsOf          row k, and the rows of a table
+--     fairRow, fairTable     no row lies past the end, is empty or too long: a test, which antt computes for each table
 -- Assumes nothing.
-use mathlib.Core.Path.{_≡_, refl, ap, _∙_}
+use mathlib.Core.Path.{_≡_, sym, ap, _∙_}
 use mathlib.Core.Bool.{Bool, true, _&&_}
-use mathlib.Core.List.{List, [], _∷_, _++_, map}
-use Prim.Native.Nat.{ℕ, zero, suc, _+_, _-_, _*_, _≤_, _<_}
+use mathlib.Core.List.{List, [], _∷_}
+use Prim.Native.Nat.{ℕ, zero, suc, _+_, _-_, _*_, _/_, _≤_, _<_}
 use native.Mathlib.Nat.{not-suc-le-zero, le-of-suc-le-suc}
-use native.Mathlib.Numerals.{add-one}
 use native.Mathlib.Omega.{arith}
 use lib.Dec.{leb}
-use lib.ListN.{length, getD, take, drop, length-take, drop-of-length-le}
-use lib.Seq.{drop-cons, getD-take}
+use lib.ListN.{length, getD}
 use borrow.Author.Tests.{leb-true}
 use Rattle.spec.specs.Laws.Booleans.{and-left, and-right}
-use Rattle.spec.specs.Rows.{Row, row, functionMappings, operatorReplacements, greekLetters, wordMappings, greekCapitals}
-use Rattle.text.specs.Parts.{part}
-use Rattle.rows.specs.Flat.{flat, narrow, narrow-at, length-at, row-shown}
+use Rattle.spec.specs.Rows.{Row}
+use Rattle.text.specs.Parts.{part, length-part, whole-part}
 use Rattle.entries.specs.Bounded.{Fair}
 
-abbrev pub allRows : List Row
-allRows = functionMappings ++ operatorReplacements ++ greekLetters ++ wordMappings ++ greekCapitals
+-- the text whose length stands at a place
+abbrev pub textAt : List ℕ → ℕ → List ℕ
+textAt table at = part (at + 1) (getD table at 0) table
 
-unfoldable pub rowAt : ℕ → Row
-rowAt k = getD allRows k (row "" "")
+abbrev pub rowAt : List ℕ → ℕ → Row
+rowAt table k = record { typst = textAt table (k * 36); latex = textAt table (k * 36 + 16) }
 
-unfoldable pub rowsBetween : ℕ → ℕ → List Row
-rowsBetween first end = drop first (take end allRows)
+abbrev pub rowsFrom : List ℕ → ℕ → ℕ → List Row
+rowsFrom table k zero = []
+rowsFrom table k (suc n) = rowAt table k ∷ rowsFrom table (k + 1) n
 
--- ---- the columns
-abbrev pub typsts : List (List ℕ)
-typsts = map (λ (r : Row). r .typst) allRows
+unfoldable pub rowsOf : List ℕ → List Row
+rowsOf table = rowsFrom table 0 (length table / 36)
 
-abbrev pub latexes : List (List ℕ)
-latexes = map (λ (r : Row). r .latex) allRows
+-- ---- the test
+abbrev pub fairRow : List ℕ → ℕ → Bool
+fairRow table k =
+    leb (k * 36 + 36) (length table) && (leb 1 (getD table (k * 36) 0) && (leb (getD table (k * 36) 0) 15 && leb (getD table (k * 36 + 16) 0) 19))
 
-typst-column : (rs : List Row) (k : ℕ) → getD (map (λ (r : Row). r .typst) rs) k [] ≡ getD rs k (row "" "") .typst
-typst-column [] k = refl
-typst-column (r ∷ rs) zero = refl
-typst-column (r ∷ rs) (suc k) = typst-column rs k
+abbrev pub fairRows : List ℕ → ℕ → ℕ → Bool
+fairRows table k zero = true
+fairRows table k (suc n) = fairRow table k && fairRows table (k + 1) n
 
-latex-column : (rs : List Row) (k : ℕ) → getD (map (λ (r : Row). r .latex) rs) k [] ≡ getD rs k (row "" "") .latex
-latex-column [] k = refl
-latex-column (r ∷ rs) zero = refl
-latex-column (r ∷ rs) (suc k) = latex-column rs k
+unfoldable pub fairTable : List ℕ → Bool
+fairTable table = fairRows table 0 (length table / 36)
 
--- every text has a symbol
-abbrev pub filledTexts : List (List ℕ) → Bool
-filledTexts [] = true
-filledTexts (s ∷ texts) = leb 1 (length s) && filledTexts texts
+fair-from : (table : List ℕ) (k n i : ℕ) → fairRows table k n ≡ true → i < n → fairRow table (k + i) ≡ true
+fair-from table k zero i e h = absurd (not-suc-le-zero h)
+fair-from table k (suc n) zero e h = let z : k + 0 ≡ k = omega arith in ap (fairRow table) z ∙ and-left (fairRow table k) (fairRows table (k + 1) n) e
+fair-from table k (suc n) (suc i) e h =
+    let z : k + suc i ≡ k + 1 + i = omega arith in
+    ap (fairRow table) z ∙ fair-from table (k + 1) n i (and-right (fairRow table k) (fairRows table (k + 1) n) e) (le-of-suc-le-suc h)
 
-filled-at : (texts : List (List ℕ)) → filledTexts texts ≡ true → (k : ℕ) → k < length texts → 1 ≤ length (getD texts k [])
-filled-at [] e k h = absurd (not-suc-le-zero h)
-filled-at (s ∷ texts) e zero h = leb-true 1 (length s) (and-left (leb 1 (length s)) (filledTexts texts) e)
-filled-at (s ∷ texts) e (suc k) h = filled-at texts (and-right (leb 1 (length s)) (filledTexts texts) e) k (le-of-suc-le-suc h)
+pub fair-at : (table : List ℕ) (k : ℕ) → fairTable table ≡ true → k < length table / 36 → fairRow table k ≡ true
+unfolding fairTable
+fair-at table k e h = let z : 0 + k ≡ k = omega arith in ap (fairRow table) (sym z) ∙ fair-from table 0 (length table / 36) k e h
 
-module _ (k : ℕ) (h : k < 108) where
-  pub typst-fits : length (rowAt k .typst) ≤ 16
-  unfolding rowAt
-  typst-fits = rw (typst-column allRows k) at (narrow-at 16 typsts refl k h)
+module _ (table : List ℕ) (k : ℕ) (e : fairRow table k ≡ true) where
+  pub row-within : k * 36 + 36 ≤ length table
+  row-within = leb-true (k * 36 + 36) (length table) (and-left (leb (k * 36 + 36) (length table)) _ e)
 
-  pub latex-fits : length (rowAt k .latex) ≤ 20
-  unfolding rowAt
-  latex-fits = rw (latex-column allRows k) at (narrow-at 20 latexes refl k h)
+  rest : (leb 1 (getD table (k * 36) 0) && (leb (getD table (k * 36) 0) 15 && leb (getD table (k * 36 + 16) 0) 19)) ≡ true
+  rest = and-right (leb (k * 36 + 36) (length table)) _ e
 
-  typst-some : 1 ≤ length (rowAt k .typst)
-  unfolding rowAt
-  typst-some = rw (typst-column allRows k) at (filled-at typsts refl k h)
+  some : 1 ≤ getD table (k * 36) 0
+  some = leb-true 1 (getD table (k * 36) 0) (and-left (leb 1 (getD table (k * 36) 0)) _ rest)
 
-  pub row-fair : Fair (rowAt k .typst) (rowAt k .latex)
-  row-fair = let a = typst-fits in let b = latex-fits in let c = typst-some in record { some = omega arith; short = omega arith; few = omega arith }
+  widths : (leb (getD table (k * 36) 0) 15 && leb (getD table (k * 36 + 16) 0) 19) ≡ true
+  widths = and-right (leb 1 (getD table (k * 36) 0)) _ rest
 
-  pub typst-length-at : getD (map length typsts) k 0 ≡ length (rowAt k .typst)
-  unfolding rowAt
-  typst-length-at = length-at typsts k h ∙ ap length (typst-column allRows k)
+  pub typst-fits : getD table (k * 36) 0 ≤ 15
+  typst-fits = leb-true (getD table (k * 36) 0) 15 (and-left (leb (getD table (k * 36) 0) 15) _ widths)
 
-  pub latex-length-at : getD (map length latexes) k 0 ≡ length (rowAt k .latex)
-  unfolding rowAt
-  latex-length-at = length-at latexes k h ∙ ap length (latex-column allRows k)
+  pub latex-fits : getD table (k * 36 + 16) 0 ≤ 19
+  latex-fits = leb-true (getD table (k * 36 + 16) 0) 19 (and-right (leb (getD table (k * 36) 0) 15) _ widths)
 
-  pub typst-shown : {n : ℕ} → n ≡ length (rowAt k .typst) → part (k * 16) (k * 16 + n - k * 16) (flat 16 typsts) ≡ rowAt k .typst
-  unfolding rowAt
-  typst-shown {n} size = row-shown 16 typsts refl k n h (size ∙ rw (typst-column allRows k)) ∙ typst-column allRows k
-
-  pub latex-shown : {n : ℕ} → n ≡ length (rowAt k .latex) → part (k * 20) (k * 20 + n - k * 20) (flat 20 latexes) ≡ rowAt k .latex
-  unfolding rowAt
-  latex-shown {n} size = row-shown 20 latexes refl k n h (size ∙ rw (latex-column allRows k)) ∙ latex-column allRows k
+  pub row-fair : Fair (rowAt table k .typst) (rowAt table k .latex)
+  row-fair =
+      let w = row-within in let a = typst-fits in let b = latex-fits in let c = some in
+      let t = length-part (k * 36 + 1) (getD table (k * 36) 0) table (omega arith) in
+      let l = length-part (k * 36 + 16 + 1) (getD table (k * 36 + 16) 0) table (omega arith) in
+      record { some = omega arith; short = omega arith; few = omega arith }
 
 -- ---- rows one after another
-pub row-next : (k end : ℕ) → k < end → end ≤ 108 → rowsBetween k end ≡ rowAt k ∷ rowsBetween (k + 1) end
-unfolding rowsBetween rowAt
-row-next k end h l =
-    let n = length-take end allRows in
-    drop-cons (take end allRows) k (row "" "") (omega arith)
-    ∙ rw (getD-take end allRows k (row "" "") h, add-one k)
+pub text-shown : (table : List ℕ) (at : ℕ) {end : ℕ} → end ≡ at + 1 + getD table at 0 → part (at + 1) (end - (at + 1)) table ≡ textAt table at
+text-shown table at e = ap (λ n. part (at + 1) (n - (at + 1)) table) e ∙ whole-part (at + 1) (getD table at 0) table
 
-pub rows-done : (k end : ℕ) → end ≤ k → rowsBetween k end ≡ []
-unfolding rowsBetween
-rows-done k end h = let n = length-take end allRows in let l : length (take end allRows) ≤ k = omega arith in drop-of-length-le (take end allRows) l
+pub row-next : (table : List ℕ) (k n : ℕ) → k < n → rowsFrom table k (n - k) ≡ rowAt table k ∷ rowsFrom table (k + 1) (n - (k + 1))
+row-next table k n h = let z : n - k ≡ suc (n - (k + 1)) = omega arith in ap (rowsFrom table k) z
 
--- ---- each table lies between its first row and the next table's
-pub functions-between : rowsBetween 0 13 ≡ functionMappings
-unfolding rowsBetween
-functions-between = refl
+pub rows-done : (table : List ℕ) (k n : ℕ) → n ≤ k → rowsFrom table k (n - k) ≡ []
+rows-done table k n h = let z : n - k ≡ 0 = omega arith in ap (rowsFrom table k) z
 
-pub operators-between : rowsBetween 13 20 ≡ operatorReplacements
-unfolding rowsBetween
-operators-between = refl
-
-pub greek-between : rowsBetween 20 50 ≡ greekLetters
-unfolding rowsBetween
-greek-between = refl
-
-pub words-between : rowsBetween 50 106 ≡ wordMappings
-unfolding rowsBetween
-words-between = refl
-
-pub capitals-between : rowsBetween 106 108 ≡ greekCapitals
-unfolding rowsBetween
-capitals-between = refl
+pub rows-all : (table : List ℕ) → rowsFrom table 0 (length table / 36 - 0) ≡ rowsOf table
+unfolding rowsOf
+rows-all table = let z : length table / 36 - 0 ≡ length table / 36 = omega arith in ap (rowsFrom table 0) z

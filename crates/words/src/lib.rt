@@ -1,4 +1,5 @@
 // Functions, operators, Greek names and words: the tables of the Rust's convert_syntax, applied row by row.
+mod rows;
 mod tables;
 
 use text::Progress;
@@ -24,14 +25,7 @@ pub fn convert_functions(work: &mut [u8], text: Progress) -> Progress
     requires { ⌜ Ready (now work) text ⌝ }
     ensures { λ r. ⌜ Staged (now (work .entry)) (now (work .exit)) text r (replaceRows functionMappings) ⌝ }
 {
-    tables::apply_rows(
-        work,
-        text,
-        0,
-        Kind::Literal,
-        tables::FUNCTIONS,
-        tables::OPERATORS,
-    )
+    rows::apply_rows(work, text, 0, Kind::Literal, &tables::FUNCTIONS)
 }
 
 // `>=`, `->` and so on become commands, wherever they stand.
@@ -39,14 +33,7 @@ pub fn convert_operators(work: &mut [u8], text: Progress) -> Progress
     requires { ⌜ Ready (now work) text ⌝ }
     ensures { λ r. ⌜ Staged (now (work .entry)) (now (work .exit)) text r (replaceRows operatorReplacements) ⌝ }
 {
-    tables::apply_rows(
-        work,
-        text,
-        0,
-        Kind::Literal,
-        tables::OPERATORS,
-        tables::GREEK,
-    )
+    rows::apply_rows(work, text, 0, Kind::Literal, &tables::OPERATORS)
 }
 
 // Greek names and words, which spare `\text` and `\mathrm` blocks. Lengths count the held blocks in full.
@@ -60,22 +47,8 @@ pub fn convert_words(work: &mut [u8], text: Progress) -> Progress
     };
     let held = blocks::hold_both(work, from, n);
     let outside = Progress::Text(held.at, held.len);
-    let greek = tables::apply_rows(
-        work,
-        outside,
-        held.extra,
-        Kind::Greek,
-        tables::GREEK,
-        tables::WORDS,
-    );
-    let words = tables::apply_rows(
-        work,
-        greek,
-        held.extra,
-        Kind::Word,
-        tables::WORDS,
-        tables::CAPITALS,
-    );
+    let greek = rows::apply_rows(work, outside, held.extra, Kind::Greek, &tables::GREEK);
+    let words = rows::apply_rows(work, greek, held.extra, Kind::Word, &tables::WORDS);
     blocks::put_all_back(work, words, held.texts, held.used)
 }
 
@@ -84,5 +57,5 @@ pub fn convert_greek_capitals(work: &mut [u8], text: Progress) -> Progress
     requires { ⌜ Ready (now work) text ⌝ }
     ensures { λ r. ⌜ Staged (now (work .entry)) (now (work .exit)) text r convertGreekCapitals ⌝ }
 {
-    tables::apply_rows(work, text, 0, Kind::Capital, tables::CAPITALS, tables::END)
+    rows::apply_rows(work, text, 0, Kind::Capital, &tables::CAPITALS)
 }

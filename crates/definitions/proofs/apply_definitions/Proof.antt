@@ -1,5 +1,4 @@
 -- `definitions::apply_definitions` meets its contract. The loop's invariant: the definitions from the cursor on are left. Assumes nothing.
-use Prim.Native.Nat.{_+_, _-_}
 use mathlib.Core.Path.{_≡_, refl, ap, _∙_}
 use mathlib.Core.List.{List}
 use mathlib.Core.Option.{some}

@@ -1,24 +1,27 @@
 -- `words::convert_functions` meets its contract: its rows are those of the table. Assumes nothing.
-use mathlib.Core.Path.{ap, _∙_}
-use native.Mathlib.Omega.{arith}
+use mathlib.Core.Path.{refl}
 use Rattle.spec.specs.Rows.{functionMappings}
 use Rattle.spec.specs.Words.{replaceRows}
 use Rattle.entries.specs.Sized.{within-none, staged-alike}
-use Rattle.words.specs.declared.Kind.the-variants.{Literal}
-use Rattle.words.specs.Rows.{functions-between}
-use Rattle.words.specs.Kinds.{ruleOf, sizedRows, rows-replaced}
+use Rattle.words.specs.Rows.{rowsOf, fairTable}
+use Rattle.words.specs.Kinds.{rows-replaced}
 use borrow.Author.Needs.{needs}
 use Rattle.words.proofs.convert_functions.Statement.{statement}
 use Rattle.words.proofs.convert_functions.Tie as tie
 
+slice-aggregate-apply-rows : tie.Need-slice-aggregate-apply-rows
+slice-aggregate-apply-rows c = search needs
+
 apply-rows-requires : tie.Need-apply-rows-requires
-apply-rows-requires c κs = (c .before .before .pre, (within-none (c .before .before .args .text) (c .before .before .pre), omega arith))
+unfolding fairTable
+apply-rows-requires c κs = (c .before .before .before .pre, (within-none (c .before .before .before .args .text) (c .before .before .before .pre), refl))
 
 same-length : tie.Need-same-length
 same-length c = search needs
 
 returns : tie.Need-returns
-returns c = staged-alike (replaceRows functionMappings) (λ s. ap (λ rs. sizedRows 0 (ruleOf Literal) rs s) functions-between ∙ rows-replaced functionMappings s) (c .before .before .apply-rows .ensures .staged)
+unfolding rowsOf
+returns c = staged-alike (replaceRows functionMappings) (λ s. rows-replaced functionMappings s) (c .before .before .apply-rows .ensures .staged)
 
 pub convert-functions-spec : {M : Type 1} → statement M
-convert-functions-spec = tie.close (tie.spec apply-rows-requires same-length returns)
+convert-functions-spec = tie.close (tie.spec slice-aggregate-apply-rows apply-rows-requires same-length returns)
