@@ -20,8 +20,8 @@ use Rattle.text.specs.Trim.{Narrowed, spanned}
 use Rattle.text.specs.declared.Span.{Span}
 use Rattle.text.specs.declared.Found.{Found}
 use Rattle.text.specs.declared.Found.the-variants as Found
-use Rattle.calls.specs.First.{First, Firstly}
-use Rattle.calls.specs.declared.Site.the-variants as Site
+use Rattle.delimiters.specs.First.{First, Firstly}
+use Rattle.delimiters.specs.declared.Site.the-variants as Site
 use Rattle.attach.specs.declared.Attachment.{Attachment}
 use Rattle.attach.specs.declared.Attachment.the-variants.{At, Nothing}
 

@@ -21,7 +21,7 @@ use Rattle.spec.specs.Calls.{latexUnderset, attachOnce, attachTimes, convertAtt
 use Rattle.text.specs.Parts.{part, length-part, whole-part, sub-part, rest-part}
 use Rattle.text.specs.Trim.{spanned}
 use Rattle.text.specs.Writer.{Regions, Appended, appended-long}
-use Rattle.text.specs.Written.{appended-text}
+use Rattle.text.specs.Written.{appended-text, appended-written, wrote-beyond}
 use Rattle.text.specs.Stage.{shown, Placed, judged, Ready, Answered, placed-text, placed-fits}
 use Rattle.text.specs.declared.Span.{Span}
 use Rattle.text.specs.declared.Progress.{Progress}
@@ -81,6 +81,17 @@ ready-halved {w} {p} {from} {n} ready e =
     let light = weight-short (part from n w) in
     record { long = long; place = inl (placed .0, fits); light = omega arith }
 
+-- what lies behind both halves is as it was
+abbrev pub Beyond : List ℕ → List ℕ → Type 0
+Beyond w w′ = drop 32768 w′ ≡ drop 32768 w
+
+other-within : (at : ℕ) → other at + 16384 ≤ 32768
+other-within at = go (decLt at 16384)
+  where
+    go : Dec (at < 16384) → other at + 16384 ≤ 32768
+    go (yes l) = let o = other-low at l in omega arith
+    go (no l) = let o = other-high at (omega arith) in omega arith
+
 -- ---- one turn
 abbrev pub undersetAt : List ℕ → ℕ → ℕ → ℕ → ℕ → Span → Span → List ℕ
 undersetAt w from n i k base below =
@@ -107,6 +118,7 @@ Left w w′ at n Done = (w′ ≡ w) × (attachOnce (part at n w) ≡ none)
 pub record Turned (w w′ : List ℕ) (at n : ℕ) (r : Turn) : Type 0 where
   pub long : length w′ ≡ length w
   pub left : Left w w′ at n r
+  pub beyond : Beyond w w′
 
 -- as `attach_at` has found it in the text
 module _ {w : List ℕ} {at n : ℕ} (half : Halved w at n) {r : Attachment} (found : Attached (part at (at + n - at) w) r) where
@@ -114,7 +126,7 @@ module _ {w : List ℕ} {at n : ℕ} (half : Halved w at n) {r : Attachment} (fo
   here {q} e = subst (λ s. Attached s q) (whole-part at n w) (subst (Attached (part at (at + n - at) w)) e found)
 
   pub turned-not : r ≡ Nothing → Turned w w at n Done
-  turned-not e = record { long = refl; left = (refl, sym (here e .text)) }
+  turned-not e = record { long = refl; left = (refl, sym (here e .text)); beyond = refl }
 
   module _ {i k : ℕ} {base below : Span} (e : r ≡ At i k base below) where
     pub arguments-here : Arguments i k base below × (i + 7 + k + 1 ≤ n)
@@ -136,21 +148,24 @@ module _ {w : List ℕ} {at n : ℕ} (half : Halved w at n) {r : Attachment} (fo
         record {
           long = l;
           left = (record { long = omega arith; place = other-place at count (omega arith); light = omega arith }, sym (here e .text) ∙ ap some (sym text));
+          beyond = wrote-beyond {k = 32768} (appended-written a (halved-regions half .region) .wrote) (other-within at);
         }
 
 -- ---- the turns
 pub record Turning (w₀ w : List ℕ) (from n at m k : ℕ) : Type 0 where
   pub long : length w ≡ length w₀
   pub half : Halved w at m
+  pub beyond : Beyond w₀ w
   pub left : attachTimes (n - k) (part at m w) ≡ attachTimes n (part from n w₀)
 
 pub record Rewritten (w₀ w : List ℕ) (from n : ℕ) (r : Place) : Type 0 where
   pub long : length w ≡ length w₀
   pub half : Halved w (r .at) (r .n)
+  pub beyond : Beyond w₀ w
   pub text : part (r .at) (r .n) w ≡ convertAttach (part from n w₀)
 
 pub turning-none : {w : List ℕ} {from n : ℕ} → Halved w from n → Turning w w from n from n 0
-turning-none {w} {from} {n} half = let z : n - 0 ≡ n = omega arith in record { long = refl; half = half; left = ap (λ j. attachTimes j (part from n w)) z }
+turning-none {w} {from} {n} half = let z : n - 0 ≡ n = omega arith in record { long = refl; half = half; beyond = refl; left = ap (λ j. attachTimes j (part from n w)) z }
 
 times-some : (j : ℕ) (s : List ℕ) {t : List ℕ} → attachOnce s ≡ some t → attachTimes (suc j) s ≡ attachTimes j t
 unfolding attachTimes
@@ -173,6 +188,7 @@ module _ {w₀ w : List ℕ} {from n at m k : ℕ} (turning : Turning w₀ w fro
       record {
         long = turned .long ∙ turning .long;
         half = turned .left .0;
+        beyond = turned .beyond ∙ turning .beyond;
         left = sym (times-some (n - (k + 1)) (part at m w) (turned .left .1)) ∙ ap (λ j. attachTimes j (part at m w)) less ∙ turning .left;
       }
 
@@ -183,6 +199,7 @@ module _ {w₀ w : List ℕ} {from n at m k : ℕ} (turning : Turning w₀ w fro
       record {
         long = turned .long ∙ turning .long;
         half = subst (λ v. Halved v at m) (sym same) (turning .half);
+        beyond = turned .beyond ∙ turning .beyond;
         text = ap (part at m) same ∙ sym (times-none (n - k) (part at m w) (turned .left .1)) ∙ turning .left ∙ all-times half;
       }
 
@@ -193,6 +210,7 @@ module _ {w₀ w : List ℕ} {from n at m k : ℕ} (turning : Turning w₀ w fro
       record {
         long = turning .long;
         half = turning .half;
+        beyond = turning .beyond;
         text = sym (ap (λ j. attachTimes j (part at m w)) z) ∙ turning .left ∙ all-times half;
       }
 
@@ -201,6 +219,7 @@ pub record Settled (w w′ : List ℕ) (place : Place) (r : Progress) : Type 0 w
   pub long : length w′ ≡ length w
   pub answer : shown r w′ ≡ grown (part (place .at) (place .n) w) (part (place .at) (place .n) w)
   pub placed : Placed r
+  pub beyond : Beyond w w′
 
 module _ (w w′ : List ℕ) (place : Place) (to count : ℕ) (counted : count ≡ length (part (place .at) (place .n) w)) (region : (to ≡ 0) ⊎ (to ≡ mostSymbols)) (held : count ≤ mostSymbols → part to count w′ ≡ part (place .at) (place .n) w) where
   judged-answer : Dec (mostSymbols < count) → (shown (judged to count) w′ ≡ grown (part (place .at) (place .n) w) (part (place .at) (place .n) w)) × Placed (judged to count)
@@ -212,22 +231,23 @@ module _ (w w′ : List ℕ) (place : Place) (to count : ℕ) (counted : count �
       let l : count ≤ mostSymbols = omega arith in
       (rw (le-ltb mostSymbols count l, le-ltb mostSymbols (length t) (omega arith)) (ap passed (held l)), rw (le-ltb mostSymbols count l) (region, l))
 
-  settled : {r : Progress} → length w′ ≡ length w → r ≡ judged to count → Settled w w′ place r
-  settled long e =
+  settled : {r : Progress} → length w′ ≡ length w → Beyond w w′ → r ≡ judged to count → Settled w w′ place r
+  settled long beyond e =
       let j = judged-answer (decLt mostSymbols count) in
-      record { long = long; answer = ap (λ q. shown q w′) e ∙ j .0; placed = subst Placed (sym e) (j .1) }
+      record { long = long; answer = ap (λ q. shown q w′) e ∙ j .0; placed = subst Placed (sym e) (j .1); beyond = beyond }
 
 module _ {w : List ℕ} {place : Place} (half : Halved w (place .at) (place .n)) where
   pub settled-low : {r : Progress} → place .at < 16384 → r ≡ judged (place .at) (place .n) → Settled w w place r
   settled-low h e =
       settled w w place (place .at) (place .n) (sym (length-part (place .at) (place .n) w (halved-regions half .source)))
-      (⊎-elim (λ p. p .0) (λ p. (let z = p .0 in absurd (omega arith))) (half .place)) (λ l. refl) refl e
+      (⊎-elim (λ p. p .0) (λ p. (let z = p .0 in absurd (omega arith))) (half .place)) (λ l. refl) refl refl e
 
   pub settled-high : {w′ : List ℕ} {count : ℕ} {r : Progress} → Appended w w′ 0 8192 0 count (part (place .at) (place .n) w) → r ≡ judged 0 count → Settled w w′ place r
   settled-high {w′} {count} a e =
       let long = half .long in
       let counted = a .counted in
-      settled w w′ place 0 count (omega arith) (inl refl) (λ l. appended-text a (omega arith) l) (appended-long a) e
+      settled w w′ place 0 count (omega arith) (inl refl) (λ l. appended-text a (omega arith) l) (appended-long a)
+      (wrote-beyond {k = 32768} (appended-written a (omega arith) .wrote) (omega arith)) e
 
 pub attach-answered :
     {w w′ w″ : List ℕ} {p r : Progress} {from n : ℕ} {place : Place} → p ≡ Text from n → Rewritten w w′ from n place → Settled w′ w″ place r
@@ -238,3 +258,6 @@ attach-answered {w} e rewritten settled =
       long = settled .long ∙ rewritten .long;
       placed = settled .placed;
     }
+
+pub attach-beyond : {w w′ w″ : List ℕ} {r : Progress} {from n : ℕ} {place : Place} → Rewritten w w′ from n place → Settled w′ w″ place r → Beyond w w″
+attach-beyond rewritten settled = settled .beyond ∙ rewritten .beyond

@@ -1,6 +1,6 @@
 // `attach(base, b: bottom)` becomes `\underset{bottom}{base}`: the first call, again and again, until it can't be rewritten. The text
 // goes to and fro between the halves of the work buffer.
-use calls::Site;
+use delimiters::Site;
 use text::Class;
 use text::Found;
 use text::Progress;
@@ -18,7 +18,7 @@ ghost use Rattle.text.specs.Writer.{Appended, Regions};
 ghost use Rattle.text.specs.Stage.{Ready, Answered};
 ghost use Rattle.text.specs.Trim.{Within, Narrowed, spanned};
 ghost use Rattle.attach.specs.Once.{Attached, Arguments};
-ghost use Rattle.attach.specs.Turns.{Halved, other, undersetAt, Turned, Rewritten, Settled};
+ghost use Rattle.attach.specs.Turns.{Halved, Beyond, other, undersetAt, Turned, Rewritten, Settled};
 
 // The length of `attach(`.
 const OPEN: usize = 7;
@@ -79,7 +79,7 @@ pub fn attach_at(s: &[u8]) -> Attachment
     requires { ⌜ length (now s) ≤ 16384 ⌝ }
     ensures { λ r. ⌜ Attached (now (s .entry)) r ⌝ }
 {
-    let Site::At(i, k) = calls::first_call(s, b"attach(") else {
+    let Site::At(i, k) = delimiters::first_call(s, b"attach(") else {
         return Attachment::Nothing;
     };
     let start = i + OPEN;
@@ -254,6 +254,7 @@ fn settle(work: &mut [u8], place: Place) -> Progress
 pub fn convert_attach(work: &mut [u8], text: Progress) -> Progress
     requires { ⌜ Ready (now work) text ⌝ }
     ensures { λ r. ⌜ Answered (now (work .entry)) (now (work .exit)) text r (stage convertAttach) ⌝ }
+    ensures { λ _. ⌜ Beyond (now (work .entry)) (now (work .exit)) ⌝ }
 {
     let Progress::Text(from, n) = text else {
         return text;

@@ -19,7 +19,7 @@ use Rattle.text.specs.Sweep.{Sweeping, rest, rest-read, symbols-read, symbols-a
 use Rattle.text.specs.declared.Span.{Span}
 use Rattle.text.specs.declared.Found.{Found}
 use Rattle.text.specs.declared.Found.the-variants as Found
-use Rattle.calls.specs.Delimiters.{Called, innerAt, called-not, spent}
+use Rattle.delimiters.specs.Delimiters.{Called, innerAt, called-not, spent}
 use Rattle.calls.specs.declared.binom.Binomial.{Binomial}
 use Rattle.calls.specs.declared.binom.Binomial.the-variants.{At, Nothing}
 

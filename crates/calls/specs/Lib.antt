@@ -1,4 +1,2 @@
 -- What the contracts of `calls` cite.
-pub mod Delimiters
 pub mod Binom
-pub mod First

@@ -1,6 +1,6 @@
 // `binom(n, k)` becomes `\binom{n}{k}`. With no comma at its top level a call is copied as ordinary text.
-use super::delimiters::call_at;
-use super::delimiters::put_call;
+use delimiters::call_at;
+use delimiters::put_call;
 use text::Class;
 use text::Found;
 use text::Progress;

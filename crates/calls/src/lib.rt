@@ -1,24 +1,13 @@
 // The call rewritings, `op` to the second `upright`, in the Rust's order. Each is a stage: it takes the text where it stands in the
 // work buffer and gives it back rewritten, in the other region, or as it was where it has nothing to rewrite.
 mod binom;
-mod delimiters;
-mod first;
 
 pub use binom::convert_binom;
-pub use delimiters::call_at;
 use delimiters::convert_calls;
-pub use delimiters::put_call;
-pub use first::first_call;
 use text::Progress;
 ghost use Rattle.spec.specs.Result.{stage};
 ghost use Rattle.spec.specs.Calls.{convertOp, convertBb, convertBold, convertUpright, convertFloor, convertCeil, convertAbs, convertCal, convertFrak, convertUprightAgain, convertFloorCeilAbs};
 ghost use Rattle.text.specs.Stage.{Ready, Staged};
-
-// A call in a text: where it begins, and the length of what stands inside.
-pub enum Site {
-    At(usize, usize),
-    Nothing,
-}
 
 // `op("name")` becomes `\operatorname{name}`.
 pub fn convert_op(work: &mut [u8], text: Progress) -> Progress

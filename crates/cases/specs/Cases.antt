@@ -22,8 +22,8 @@ use Rattle.text.specs.Search.{until-drop}
 use Rattle.text.specs.Writer.{Regions, Appended, appended-none, appended-more, appended-part}
 use Rattle.text.specs.declared.Span.{Span}
 use Rattle.closing.specs.Split.{Splits, partsBehind}
-use Rattle.calls.specs.First.{First, Firstly}
-use Rattle.calls.specs.declared.Site.the-variants.{Nothing}
+use Rattle.delimiters.specs.First.{First, Firstly}
+use Rattle.delimiters.specs.declared.Site.the-variants.{Nothing}
 use Rattle.cases.specs.declared.Branch.{Branch}
 
 -- a branch that is not the first stands behind a separator

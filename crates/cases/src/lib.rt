@@ -1,6 +1,6 @@
 // `cases(..)` becomes LaTeX's environment of that name: its first occurrence only, and only if that one is closed. Its branches are
 // parted by commas at the top level; blank ones are dropped.
-use calls::Site;
+use delimiters::Site;
 use text::Class;
 use text::Progress;
 use text::Span;
@@ -102,7 +102,7 @@ pub fn convert_cases(work: &mut [u8], text: Progress) -> Progress
         return text;
     };
     let end = from + n;
-    let Site::At(i, k) = calls::first_call(&work[from..end], b"cases(") else {
+    let Site::At(i, k) = delimiters::first_call(&work[from..end], b"cases(") else {
         return text;
     };
     let to = text::CAP - from;

@@ -25,7 +25,7 @@ use Rattle.text.specs.Writer.{Regions, Appended}
 use Rattle.text.specs.Sweep.{Sweeping, rest, rest-read, symbols-read}
 use Rattle.text.specs.declared.Found.{Found}
 use Rattle.text.specs.declared.Found.the-variants.{At, Nothing}
-use Rattle.calls.specs.Delimiters.{Called, innerAt, spent, called-not, calling-waits}
+use Rattle.delimiters.specs.Delimiters.{Called, innerAt, spent, called-not, calling-waits}
 use Rattle.finish.specs.Reached.{comes, comes-turn, reached-same, reached-absent}
 use Rattle.finish.specs.declared.lr.Ended.{Ended}
 use Rattle.finish.specs.declared.lr.Ended.the-variants.{Length, Bare}

@@ -10,7 +10,7 @@ ghost use Rattle.spec.specs.Finish.{delimiters, sizedBy, convertLr};
 ghost use Rattle.text.specs.Parts.{part};
 ghost use Rattle.text.specs.Writer.{Room, Appended, Apart, Regions};
 ghost use Rattle.text.specs.Stage.{Ready, Staged};
-ghost use Rattle.calls.specs.Delimiters.{Called};
+ghost use Rattle.delimiters.specs.Delimiters.{Called};
 ghost use Rattle.finish.specs.Lr.{lrName, isDelimiter, EndedBy};
 
 // What the loop comes to: the finished text's length, or a bare delimiter.
@@ -24,7 +24,7 @@ fn lr_at(s: &[u8]) -> Found
     requires { ⌜ length (now s) ≤ 16384 ⌝ }
     ensures { λ r. ⌜ Called lrName (now (s .entry)) r ⌝ }
 {
-    calls::call_at(s, b"lr(")
+    delimiters::call_at(s, b"lr(")
 }
 
 fn is_delimiter(b: u8) -> bool
@@ -42,10 +42,10 @@ fn put_sized(work: &mut [u8], to: usize, count: usize, first: u8, inside: usize,
 {
     let middle = text::pop(k, 2);
     if first == b'(' {
-        return calls::put_call(work, to, count, b"\\left(", inside + 1, middle, b"\\right)");
+        return delimiters::put_call(work, to, count, b"\\left(", inside + 1, middle, b"\\right)");
     }
     if first == b'|' {
-        return calls::put_call(
+        return delimiters::put_call(
             work,
             to,
             count,
@@ -56,10 +56,10 @@ fn put_sized(work: &mut [u8], to: usize, count: usize, first: u8, inside: usize,
         );
     }
     if first == b'[' {
-        return calls::put_call(work, to, count, b"\\left[", inside + 1, middle, b"\\right]");
+        return delimiters::put_call(work, to, count, b"\\left[", inside + 1, middle, b"\\right]");
     }
     if first == b'{' {
-        return calls::put_call(
+        return delimiters::put_call(
             work,
             to,
             count,

@@ -1,6 +1,6 @@
 -- `attach::attach_at` meets its contract, by the first call, its comma, and what `trim` and `subscript_of` ensure. Assumes nothing.
 use Rattle.attach.specs.Once.{attached-not, attached-no-comma, attached-empty, attached-at, comma-fits}
-use Rattle.calls.specs.First.{First, Firstly}
+use Rattle.delimiters.specs.First.{First, Firstly}
 use Rattle.spec.specs.Symbols.{bytes}
 use Prim.Native.Nat.{_<_}
 use mathlib.Core.Path.{subst}

@@ -1,7 +1,8 @@
 -- `attach::convert_attach` meets its contract: the turns, and the finished text judged. Assumes nothing.
+use mathlib.Core.Path.{refl}
 use Rattle.spec.specs.Result.{stage}
 use Rattle.spec.specs.Calls.{convertAttach}
-use Rattle.attach.specs.Turns.{ready-halved, attach-answered}
+use Rattle.attach.specs.Turns.{ready-halved, attach-answered, attach-beyond}
 use Rattle.text.specs.Stage.{staged-refused}
 use borrow.Author.Needs.{needs}
 use Rattle.attach.proofs.convert_attach.Statement.{statement}
@@ -14,7 +15,7 @@ enum-told : tie.Need-enum-told
 enum-told c = search needs
 
 returns : tie.Need-returns
-returns c = staged-refused (stage convertAttach) (c .enum-told .given .0 .0) (c .enum-told .given .1) .answered
+returns c = (staged-refused (stage convertAttach) (c .enum-told .given .0 .0) (c .enum-told .given .1) .answered, refl)
 
 attach-all-requires : tie.Need-attach-all-requires
 attach-all-requires c κs = ready-halved (c .before .before .before .before .before .pre) (c .before .before .text .given .1)
@@ -26,7 +27,10 @@ same-length : tie.Need-same-length
 same-length c = search needs
 
 returns-2 : tie.Need-returns-2
-returns-2 c = attach-answered (c .before .before .before .before .before .before .before .before .before .text .given .1) (c .before .before .before .before .before .before .attach-all .ensures) (c .before .before .settle .ensures)
+returns-2 c =
+    let rewritten = c .before .before .before .before .before .before .attach-all .ensures in
+    let settled = c .before .before .settle .ensures in
+    (attach-answered (c .before .before .before .before .before .before .before .before .before .text .given .1) rewritten settled, attach-beyond rewritten settled)
 
 pub convert-attach-spec : {M : Type 1} → statement M
 convert-attach-spec =

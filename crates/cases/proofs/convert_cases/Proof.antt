@@ -10,8 +10,8 @@ use Rattle.spec.specs.Calls.{convertCases}
 use Rattle.text.specs.Parts.{part, whole-part, length-part}
 use Rattle.text.specs.Written.{appended-written}
 use Rattle.text.specs.Stage.{placed-text, placed-low, placed-fits, placed-regions, staged-same, staged-written}
-use Rattle.calls.specs.First.{First, Firstly}
-use Rattle.calls.specs.declared.Site.the-variants.{Nothing}
+use Rattle.delimiters.specs.First.{First, Firstly}
+use Rattle.delimiters.specs.declared.Site.the-variants.{Nothing}
 use Rattle.cases.specs.Cases.{cases-not, cases-parts}
 use Rattle.cases.proofs.convert_cases.Statement.{statement}
 use Rattle.cases.proofs.convert_cases.Tie as tie

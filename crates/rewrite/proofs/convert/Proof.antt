@@ -1,5 +1,6 @@
 -- `rewrite::convert` meets its contract: a pattern that is nowhere leaves the text as it is, and else the rewritten text is judged. Assumes nothing.
 use Rattle.rewrite.specs.Edits.{ruleOf, rule-waits}
+use Rattle.text.specs.Parts.{part}
 use Rattle.text.specs.Stage.{placed-fits, placed-low, placed-regions, staged-absent, staged-written}
 use Rattle.text.specs.Written.{appended-written}
 use Rattle.spec.specs.Sweep.{sweep}
@@ -65,9 +66,10 @@ returns-3 : tie.Need-returns-3
 returns-3 c =
     let s = c .before .before .before .before .before .before .before .before .before .before .before .before .before .before .before .before in
     let a = s .args in
-    let e = c .before .before .before .before .before .before .before .before .before .before .before .text .given .1 in
-    staged-written (s .pre .0) e (sweep (ruleOf (a .kind) (a .pattern .now) (a .left .now)) 0 0)
-    (appended-written (c .before .before .before .rewrite .ensures) (placed-regions (s .pre .0) e .region)) refl (c .finished .ensures)
+    let text = c .before .before .before .before .before .before .before .before .before .before .before .text .given in
+    let f = sweep (ruleOf (a .kind) (a .pattern .now) (a .left .now)) 0 0 in
+    let t = f (part (text .0 .0) (text .0 .1 .0) (a .work .now)) in
+    staged-written (s .pre .0) (text .1) {t = t} f (appended-written {out = t} (c .before .before .before .rewrite .ensures) (placed-regions (s .pre .0) (text .1) .region)) refl (c .finished .ensures)
 
 pub convert-spec : {M : Type 1} → statement M
 convert-spec =

@@ -1,7 +1,9 @@
 -- `calls::binom::put_binom` meets its contract: three appends in a row are one. Assumes nothing.
 use native.Mathlib.Omega.{arith}
 use Rattle.text.specs.Writer.{appended-more, appended-part, appended-long}
-use Rattle.text.specs.Parts.{length-part}
+use Rattle.text.specs.Parts.{part, length-part}
+use Rattle.spec.specs.Symbols.{bytes}
+use mathlib.Core.List.{_++_}
 use lib.ListN.{length-append}
 use borrow.Author.Needs.{needs}
 use Rattle.calls.proofs.binom.put_binom.Statement.{statement}
@@ -20,7 +22,8 @@ copy-requires : tie.Need-copy-requires
 copy-requires c κs =
     let s = c .before .before .before .before .before .before .before .before in
     let a = c .before .before .before .put-call .ensures in
-    let l = appended-long a in
+    let left = bytes "\\binom{" ++ part (s .args .a) (s .args .m) (s .args .work .now) ++ bytes "}{" in
+    let l = appended-long {bs = left} a in
     let n = simp length-append at (a .counted) in
     let m = length-part (s .args .a) (s .args .m) (s .args .work .now) (omega arith) in
     let room = s .pre .0 in
@@ -34,7 +37,8 @@ put-all-requires c κs =
     let s = c .before .before .before .before .before .before .before .before .before .before .before .before .before in
     let a = c .before .before .before .before .before .before .before .before .put-call .ensures in
     let b = c .before .before .before .before .copy .ensures in
-    let l = appended-long a in let k = appended-long b in
+    let left = bytes "\\binom{" ++ part (s .args .a) (s .args .m) (s .args .work .now) ++ bytes "}{" in
+    let l = appended-long {bs = left} a in let k = appended-long b in
     let n = simp length-append at (a .counted) in
     let m = length-part (s .args .a) (s .args .m) (s .args .work .now) (omega arith) in
     let o = length-part (s .args .b) (s .args .n) (c .before .before .before .before .before .before .before .before .put-call .last .0) (omega arith) in
@@ -50,8 +54,9 @@ returns c =
     let s = c .before .before .before .before .before .before .before .before .before .before .before .before .before .before .before .before in
     let a = c .before .before .before .before .before .before .before .before .before .before .before .put-call .ensures in
     let b = c .before .before .before .before .before .before .before .copy .ensures in
-    let second = appended-part a (s .args .b) (s .args .n) (s .pre .1 .1 .1) in
-    appended-more (appended-more a (rw second at b)) (c .before .before .put-all .ensures)
+    let left = bytes "\\binom{" ++ part (s .args .a) (s .args .m) (s .args .work .now) ++ bytes "}{" in
+    let second = appended-part {bs = left} a (s .args .b) (s .args .n) (s .pre .1 .1 .1) in
+    appended-more (appended-more {bs = left} a (rw second at b)) (c .before .before .put-all .ensures)
 
 pub put-binom-spec : {M : Type 1} → statement M
 put-binom-spec =

@@ -1,7 +1,7 @@
 -- `finish::lr::rewrite_lr` meets its contract. The loop's invariant is that of a sweep, at place i, and no bare delimiter has been reached. Assumes nothing.
 use Rattle.finish.specs.Lr.{lrCalling, sizedInside, sweep-lr, reached-lr, no-call, bare-here, sized-here, sized-written, sized-few}
 use Rattle.finish.specs.Reached.{comes, comes-first, comes-end}
-use Rattle.calls.specs.Delimiters.{call-fits, called-here, copied-here}
+use Rattle.delimiters.specs.Delimiters.{call-fits, called-here, copied-here}
 use Rattle.spec.specs.Finish.{bareDelimiter}
 use Rattle.spec.specs.Sweep.{reached}
 use Rattle.text.specs.Parts.{part, length-part}

@@ -1,5 +1,5 @@
 -- `layout::alignment::convert_alignment` meets its contract, by what the text has. Assumes nothing.
-use Rattle.layout.specs.Aligned.{align-some, align-breaks, align-none, lined-whole}
+use Rattle.layout.specs.Aligned.{linedTo, align-some, align-breaks, align-none, lined-whole}
 use Rattle.spec.specs.Finish.{hasAlignment, hasLineBreaks, convertAlignment}
 use Rattle.text.specs.Parts.{part, length-part, whole-part}
 use Rattle.text.specs.Stage.{placed-fits, placed-low, placed-regions, staged-same, staged-written}
@@ -85,7 +85,8 @@ returns-3 c =
     let regions = placed-regions (s .pre) (t .1) in
     let plain = ap hasAlignment (sym same) ∙ sym (c .before .before .before .before .before .before .before .before .before .before .has-alignment .ensures) ∙ c .before .before .before .before .before .before .before .before .before .if1 .left in
     let has = ap hasLineBreaks (sym same) ∙ sym (c .before .before .before .before .before .before .has-line-breaks .ensures) ∙ c .before .before .before .before .before .if2 .taken in
-    staged-written (s .pre) (t .1) convertAlignment (appended-written (c .before .before .before .put-lines .ensures .appended) (regions .region))
+    let whole = linedTo text (t .0 .1 .0) 0 in
+    staged-written (s .pre) (t .1) {t = whole} convertAlignment (appended-written {out = whole} (c .before .before .before .put-lines .ensures .appended) (regions .region))
     (align-breaks text plain has ∙ sym (lined-whole text (t .0 .1 .0) (length-part (t .0 .0) (t .0 .1 .0) w (regions .source)))) (c .finished2 .ensures)
 
 same-length-3 : tie.Need-same-length-3

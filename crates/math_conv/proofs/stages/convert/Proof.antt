@@ -21,7 +21,7 @@ convert-attach-requires : tie.Need-convert-attach-requires
 convert-attach-requires c κs = staged-ready (convert-cases-requires (c .before .before .before .before) κs) (c .before .before .before .convert-cases .ensures)
 
 convert-bb-requires : tie.Need-convert-bb-requires
-convert-bb-requires c κs = answered-ready (convert-attach-requires (c .before .before .before .before) κs) (c .before .before .before .convert-attach .ensures)
+convert-bb-requires c κs = answered-ready (convert-attach-requires (c .before .before .before .before) κs) (c .before .before .before .convert-attach .ensures .0)
 
 convert-bold-requires : tie.Need-convert-bold-requires
 convert-bold-requires c κs = staged-ready (convert-bb-requires (c .before .before .before .before) κs) (c .before .before .before .convert-bb .ensures)
@@ -52,7 +52,7 @@ apply-definitions-outside-text-requires c κs =
     let s1 = s2 .before .before .before .before in
     let start = s1 .before .before .before .before in
     let first =
-    first-stages (s1 .mark-solidus .ensures) (s2 .convert-op .ensures) (s3 .convert-cases .ensures) (s4 .convert-attach .ensures)
+    first-stages (s1 .mark-solidus .ensures) (s2 .convert-op .ensures) (s3 .convert-cases .ensures) (s4 .convert-attach .ensures .0)
     (s5 .convert-bb .ensures) (s6 .convert-bold .ensures) (s7 .convert-binom .ensures) (s8 .convert-upright .ensures)
     (s9 .convert-floor-ceil-abs .ensures) (s10 .convert-text-quotes .ensures) in
     (answered-ready (start .pre .0) first, fit-after before-definitions-passes first (start .pre .1))
@@ -90,7 +90,7 @@ returns c =
     answered-then
     (answered-then
     (answered-then
-    (answered-then (first-stages (s1 .mark-solidus .ensures) (s2 .convert-op .ensures) (s3 .convert-cases .ensures) (s4 .convert-attach .ensures) (s5 .convert-bb .ensures) (s6 .convert-bold .ensures) (s7 .convert-binom .ensures) (s8 .convert-upright .ensures) (s9 .convert-floor-ceil-abs .ensures) (s10 .convert-text-quotes .ensures)) (s11 .apply-definitions-outside-text .ensures))
+    (answered-then (first-stages (s1 .mark-solidus .ensures) (s2 .convert-op .ensures) (s3 .convert-cases .ensures) (s4 .convert-attach .ensures .0) (s5 .convert-bb .ensures) (s6 .convert-bold .ensures) (s7 .convert-binom .ensures) (s8 .convert-upright .ensures) (s9 .convert-floor-ceil-abs .ensures) (s10 .convert-text-quotes .ensures)) (s11 .apply-definitions-outside-text .ensures))
     (s12 .convert-syntax .ensures))
     (s13 .convert-alignment .ensures .answered))
     (s14 .drop-thin-space-after-commands .ensures .answered)

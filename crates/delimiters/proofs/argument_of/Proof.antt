@@ -1,10 +1,10 @@
--- `calls::delimiters::argument_of` meets its contract, by what `trim` ensures. Assumes nothing.
+-- `delimiters::argument_of` meets its contract, by what `trim` ensures. Assumes nothing.
 use Rattle.spec.specs.Symbols.{trimQuotes}
 use native.Mathlib.Omega.{arith}
 use mathlib.Core.Path.{ap, _∙_}
 use borrow.Author.Needs.{needs}
-use Rattle.calls.proofs.delimiters.argument_of.Statement.{statement}
-use Rattle.calls.proofs.delimiters.argument_of.Tie as tie
+use Rattle.delimiters.proofs.argument_of.Statement.{statement}
+use Rattle.delimiters.proofs.argument_of.Tie as tie
 
 trim-requires : tie.Need-trim-requires
 trim-requires c κs = search needs

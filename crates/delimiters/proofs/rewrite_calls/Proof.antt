@@ -1,5 +1,5 @@
--- `calls::delimiters::rewrite_calls` meets its contract. The loop's invariant is that of a sweep, at place i. Assumes nothing.
-use Rattle.calls.specs.Delimiters.{delimited, call-fits, called-here, copied-here, argument-written, written-few}
+-- `delimiters::rewrite_calls` meets its contract. The loop's invariant is that of a sweep, at place i. Assumes nothing.
+use Rattle.delimiters.specs.Delimiters.{delimited, call-fits, called-here, copied-here, argument-written, written-few}
 use Rattle.text.specs.Sweep.{Sweeping, sweeping-none, sweeping-all, symbols-apart, turn-room}
 use Rattle.text.specs.Parts.{part, length-part}
 use Rattle.spec.specs.Calls.{calling, convertCalls}
@@ -8,8 +8,8 @@ use mathlib.Core.Path.{_≡_, refl}
 use Prim.Native.Nat.{_+_, _-_, _≤_}
 use native.Mathlib.Omega.{arith}
 use borrow.Author.Needs.{needs}
-use Rattle.calls.proofs.delimiters.rewrite_calls.Statement.{statement}
-use Rattle.calls.proofs.delimiters.rewrite_calls.Tie as tie
+use Rattle.delimiters.proofs.rewrite_calls.Statement.{statement}
+use Rattle.delimiters.proofs.rewrite_calls.Tie as tie
 
 abbrev Inv-loop : tie.InvT-loop
 Inv-loop work₀ from n to name left right trims end count₀ i₀ work count i =

@@ -1,10 +1,10 @@
 // The first call of a name in a text: `cases` and `attach` rewrite that one alone.
 use super::Site;
-use super::delimiters::call_at;
+use super::call_at;
 use text::Found;
 ghost use Prim.Native.Nat.{_≤_};
 ghost use lib.ListN.{length};
-ghost use Rattle.calls.specs.First.{First};
+ghost use Rattle.delimiters.specs.First.{First};
 
 // The name's first occurrence, if it is closed.
 pub fn first_call(s: &[u8], name: &[u8]) -> Site

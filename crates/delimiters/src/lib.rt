@@ -1,4 +1,8 @@
-// A call `name(..)` becomes `left..right`, wherever its parenthesis is closed. The name holds its own parenthesis, as `bb(`.
+// What the call rewritings share: a call `name(..)` becomes `left..right`, wherever its parenthesis is closed. The name holds its
+// own parenthesis, as `bb(`.
+mod first;
+
+pub use first::first_call;
 use text::Class;
 use text::Found;
 use text::Progress;
@@ -12,7 +16,13 @@ ghost use Rattle.text.specs.Parts.{part};
 ghost use Rattle.text.specs.Trim.{Within, Narrowed, spanned};
 ghost use Rattle.text.specs.Writer.{Room, Appended, Apart, Regions};
 ghost use Rattle.text.specs.Stage.{Ready, Staged};
-ghost use Rattle.calls.specs.Delimiters.{Called, Fair, argument, delimited};
+ghost use Rattle.delimiters.specs.Delimiters.{Called, Fair, argument, delimited};
+
+// A call in a text: where it begins, and the length of what stands inside.
+pub enum Site {
+    At(usize, usize),
+    Nothing,
+}
 
 // The length of what stands inside the call that the text begins with.
 pub fn call_at(s: &[u8], name: &[u8]) -> Found

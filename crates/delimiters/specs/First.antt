@@ -14,9 +14,9 @@ use Rattle.text.specs.Parts.{part, rest-of}
 use Rattle.text.specs.Search.{Finds, finds-at, finds-within, finds-nothing}
 use Rattle.text.specs.declared.Found.{Found}
 use Rattle.text.specs.declared.Found.the-variants as Found
-use Rattle.calls.specs.Delimiters.{Called, innerAt, spent}
-use Rattle.calls.specs.declared.Site.{Site}
-use Rattle.calls.specs.declared.Site.the-variants.{At, Nothing}
+use Rattle.delimiters.specs.Delimiters.{Called, innerAt, spent}
+use Rattle.delimiters.specs.declared.Site.{Site}
+use Rattle.delimiters.specs.declared.Site.the-variants.{At, Nothing}
 
 pub record Firstly (name s : List ℕ) (i k : ℕ) : Type 0 where
   pub within : i + length name + k + 1 ≤ length s

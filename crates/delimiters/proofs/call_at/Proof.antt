@@ -1,5 +1,5 @@
--- `calls::delimiters::call_at` meets its contract, by what `starts_with` and the closing search ensure. Assumes nothing.
-use Rattle.calls.specs.Delimiters.{called-by, called-not}
+-- `delimiters::call_at` meets its contract, by what `starts_with` and the closing search ensure. Assumes nothing.
+use Rattle.delimiters.specs.Delimiters.{called-by, called-not}
 use Rattle.text.specs.Search.{closes-rest}
 use Rattle.spec.specs.Laws.Symbols.{starts-long}
 use Rattle.spec.specs.Closing.{findMatchingParen}
@@ -8,8 +8,8 @@ use mathlib.Core.Path.{sym, _∙_}
 use Prim.Native.Nat.{_≤_}
 use native.Mathlib.Omega.{arith}
 use borrow.Author.Needs.{needs}
-use Rattle.calls.proofs.delimiters.call_at.Statement.{statement}
-use Rattle.calls.proofs.delimiters.call_at.Tie as tie
+use Rattle.delimiters.proofs.call_at.Statement.{statement}
+use Rattle.delimiters.proofs.call_at.Tie as tie
 
 starts-with-requires : tie.Need-starts-with-requires
 starts-with-requires c κs = search needs

@@ -1,12 +1,12 @@
--- `calls::delimiters::put_call` meets its contract: three appends in a row are one. Assumes nothing.
+-- `delimiters::put_call` meets its contract: three appends in a row are one. Assumes nothing.
 use Rattle.text.specs.Writer.{room-left, appended-more, appended-part, appended-long}
 use Rattle.text.specs.Parts.{length-part}
 use lib.ListN.{length}
 use native.Mathlib.Omega.{arith}
 use Prim.Native.Nat.{_+_}
 use borrow.Author.Needs.{needs}
-use Rattle.calls.proofs.delimiters.put_call.Statement.{statement}
-use Rattle.calls.proofs.delimiters.put_call.Tie as tie
+use Rattle.delimiters.proofs.put_call.Statement.{statement}
+use Rattle.delimiters.proofs.put_call.Tie as tie
 
 put-all-requires : tie.Need-put-all-requires
 put-all-requires c κs = search needs

@@ -1,11 +1,11 @@
--- `calls::first::first_call` meets its contract, by what its two searches ensure. Assumes nothing.
-use Rattle.calls.specs.First.{first-not, first-unclosed, first-at}
+-- `delimiters::first::first_call` meets its contract, by what its two searches ensure. Assumes nothing.
+use Rattle.delimiters.specs.First.{first-not, first-unclosed, first-at}
 use Rattle.text.specs.Search.{finds-within}
 use lib.ListN.{length-take, length-drop}
 use native.Mathlib.Omega.{arith}
 use borrow.Author.Needs.{needs}
-use Rattle.calls.proofs.first.first_call.Statement.{statement}
-use Rattle.calls.proofs.first.first_call.Tie as tie
+use Rattle.delimiters.proofs.first.first_call.Statement.{statement}
+use Rattle.delimiters.proofs.first.first_call.Tie as tie
 
 find-requires : tie.Need-find-requires
 find-requires c κs = search needs

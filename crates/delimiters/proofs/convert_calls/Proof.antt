@@ -1,13 +1,14 @@
--- `calls::delimiters::convert_calls` meets its contract: a name that is nowhere leaves the text as it is, and else the rewritten text is judged. Assumes nothing.
-use Rattle.calls.specs.Delimiters.{delimited, calling-waits}
+-- `delimiters::convert_calls` meets its contract: a name that is nowhere leaves the text as it is, and else the rewritten text is judged. Assumes nothing.
+use Rattle.delimiters.specs.Delimiters.{delimited, calling-waits}
 use Rattle.text.specs.Stage.{placed-fits, placed-low, placed-regions, staged-absent, staged-written}
+use Rattle.text.specs.Parts.{part}
 use Rattle.text.specs.Written.{appended-written}
 use Rattle.spec.specs.Calls.{convertCalls}
 use mathlib.Core.Path.{refl}
 use native.Mathlib.Omega.{arith}
 use borrow.Author.Needs.{needs}
-use Rattle.calls.proofs.delimiters.convert_calls.Statement.{statement}
-use Rattle.calls.proofs.delimiters.convert_calls.Tie as tie
+use Rattle.delimiters.proofs.convert_calls.Statement.{statement}
+use Rattle.delimiters.proofs.convert_calls.Tie as tie
 
 enum-known-text : tie.Need-enum-known-text
 enum-known-text c = search needs
@@ -67,9 +68,10 @@ same-length-2 c = search needs
 returns-3 : tie.Need-returns-3
 returns-3 c =
     let s = c .before .before .before .before .before .before .before .before .before .before .before .before .before .before .before .before .before in
-    let e = c .before .before .before .before .before .before .before .before .before .before .before .text .given .1 in
-    let write = delimited (s .args .trims) (s .args .left .now) (s .args .right .now) in
-    staged-written (s .pre .0) e (convertCalls (s .args .name .now) write) (appended-written (c .before .before .before .rewrite-calls .ensures) (placed-regions (s .pre .0) e .region)) refl (c .finished .ensures)
+    let text = c .before .before .before .before .before .before .before .before .before .before .before .text .given in
+    let f = convertCalls (s .args .name .now) (delimited (s .args .trims) (s .args .left .now) (s .args .right .now)) in
+    let t = f (part (text .0 .0) (text .0 .1 .0) (s .args .work .now)) in
+    staged-written (s .pre .0) (text .1) {t = t} f (appended-written {out = t} (c .before .before .before .rewrite-calls .ensures) (placed-regions (s .pre .0) (text .1) .region)) refl (c .finished .ensures)
 
 pub convert-calls-spec : {M : Type 1} → statement M
 convert-calls-spec =

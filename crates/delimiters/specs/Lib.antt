@@ -1,0 +1,3 @@
+-- What the contracts of `delimiters` cite.
+pub mod Delimiters
+pub mod First
