@@ -2,3 +2,4 @@
 pub mod Answer
 pub mod Steps
 pub mod Chain
+pub mod Fits

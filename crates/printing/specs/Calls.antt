@@ -38,7 +38,7 @@ rearranged-none : {ds order : List Definition} → Rearranged ds order → ds �
 rearranged-none nothing e = refl
 rearranged-none (put d es fs r) e = cc
 
-order-none : (table : List ℕ) → NoRecords table → (order : List Definition) → Order (definitionsOr table) order → order ≡ []
+pub order-none : (table : List ℕ) → NoRecords table → (order : List Definition) → Order (definitionsOr table) order → order ≡ []
 order-none table h order o = rearranged-none (o .rearranged) (ap (λ (ds : Option (List Definition)). Option·getD ds []) h)
 
 -- ---- the answer of a call

@@ -1,0 +1,3 @@
+-- What is proved of calls of the entry.
+pub mod Apart
+pub mod StarredCalls

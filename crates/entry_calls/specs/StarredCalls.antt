@@ -1,0 +1,86 @@
+-- Document 01's starred cases, of calls of the entry: the table is `starred` in crates/spec/specs/Starred.antt. Assumes nothing.
+--     Gives            what a call answers and leaves, where it puts out a given LaTeX
+--     call-gives       so does every call on a formula that is admitted and converted to that LaTeX, if both buffers are long enough
+--     starred-calls    the whole table: every call on the formula of a row
+use mathlib.Core.Path.{_≡_, refl, ap, _∙_}
+use mathlib.Core.Bool.{Bool, true, false}
+use mathlib.Core.List.{List, [], _∷_, _++_, map}
+use Prim.Native.Nat.{ℕ, _≤_}
+use lib.Dec.{ltb}
+use lib.ListN.{length, drop, replicate}
+use borrow.Author.Tests.{le-ltb}
+use Rattle.spec.specs.Symbols.{foreign, any}
+use Rattle.spec.specs.Result.{Result, passed, refused, _then_}
+use Rattle.spec.specs.Rows.{Row}
+use Rattle.spec.specs.Table.{Definition}
+use Rattle.spec.specs.Pipeline.{mostFormula, leastWork, admitted, typstToLatex, fitting, converted, answerOf, outputAfter, workAfter, Call}
+use Rattle.spec.specs.Starred.{starred, starred-hold}
+use Rattle.printing.specs.Calls.{empty-table, order-none}
+use Rattle.math_conv.specs.Answer.{meaning}
+use Rattle.math_conv.specs.declared.Answer.{Answer}
+use Rattle.math_conv.specs.declared.Answer.the-variants.{Done, Refused}
+
+pub record Gives (latex work output : List ℕ) (answer : Answer) (work′ output′ : List ℕ) : Type 0 where
+  pub answers : answer ≡ Done (length latex)
+  pub clears : work′ ≡ replicate (length work) 0
+  pub writes : output′ ≡ latex ++ drop (length latex) output
+
+means-done : {n : ℕ} (answer : Answer) → meaning answer ≡ passed n → answer ≡ Done n
+means-done (Done m) e = cc
+means-done (Refused why) e = cc
+
+-- ---- a call on one formula
+module _ (formula latex : List ℕ) (short : ltb mostFormula (length formula) ≡ false) (native : any foreign formula ≡ false)
+    (converts : typstToLatex [] true formula ≡ passed latex) (work output : List ℕ) (wide : leastWork ≤ length work) (room : length latex ≤ length output) where
+  admits : admitted formula [] work ≡ passed formula
+  admits = rw (le-ltb (length work) leastWork wide, admitted, short, native, empty-table)
+
+  fits : fitting output latex ≡ passed latex
+  fits = rw (le-ltb (length output) (length latex) room)
+
+  gives : converted [] formula [] true work output ≡ passed latex
+  unfolding converted
+  gives = ap (λ r. r then typstToLatex [] true then fitting output) admits ∙ ap (λ r. r then fitting output) converts ∙ fits
+
+  pub call-gives : {answer : Answer} {work′ output′ : List ℕ} → Call formula [] true work output (meaning answer) work′ output′ → Gives latex work output answer work′ output′
+  call-gives {answer} c =
+      let same = ap (λ (order : List Definition). converted order formula [] true work output) (order-none [] empty-table (c .order) (c .ordered)) ∙ gives in
+      record {
+        answers = means-done answer (c .answers ∙ ap answerOf same);
+        clears = c .clears ∙ ap (λ r. workAfter r work) same;
+        writes = c .writes ∙ ap (λ r. outputAfter r output) same;
+      }
+
+-- ---- the table
+infix 4 _∈_
+pub data _∈_ (r : Row) : List Row → Type 0 where
+  here : {rs : List Row} → r ∈ (r ∷ rs)
+  there : {s : Row} {rs : List Row} → r ∈ rs → r ∈ (s ∷ rs)
+
+-- what a computed test says of a table, it says of each row
+at-row : {A : Type 0} (f g : Row → A) {r : Row} {rs : List Row} → r ∈ rs → map f rs ≡ map g rs → f r ≡ g r
+at-row f g here e = cc
+at-row f g (there m) e = at-row f g m cc
+
+abbrev overlong : Row → Bool
+overlong r = ltb mostFormula (length (r .typst))
+
+abbrev alien : Row → Bool
+alien r = any foreign (r .typst)
+
+abbrev never : Row → Bool
+never r = false
+
+starred-short : map overlong starred ≡ map never starred
+starred-short = refl
+
+starred-native : map alien starred ≡ map never starred
+starred-native = refl
+
+pub starred-calls : {r : Row} → r ∈ starred
+    → {work output work′ output′ : List ℕ} {answer : Answer} → leastWork ≤ length work → length (r .latex) ≤ length output
+    → Call (r .typst) [] true work output (meaning answer) work′ output′
+    → Gives (r .latex) work output answer work′ output′
+starred-calls {r} m {work} {output} wide room =
+    call-gives (r .typst) (r .latex) (at-row overlong never m starred-short) (at-row alien never m starred-native)
+    (at-row (λ (r : Row). typstToLatex [] true (r .typst)) (λ (r : Row). passed (r .latex)) m starred-hold) work output wide room

@@ -1,0 +1,38 @@
+// What is proved of calls of the entry: here demand 3 of document 01, of two calls that are made; in specs/StarredCalls.antt its starred cases.
+// `calls-apart` in crates/printing/specs/Calls.antt states demand 3 of any two calls.
+use math_conv::Answer;
+use math_conv::typst_to_latex;
+ghost use mathlib.Core.Path.{_≡_};
+ghost use mathlib.Core.Bool.{true};
+ghost use mathlib.Core.List.{[]};
+ghost use mathlib.Core.Logic.{_≢_};
+ghost use Prim.Native.Nat.{ℕ};
+ghost use lib.ListN.{take};
+ghost use Rattle.spec.specs.Grammar.{Plain};
+ghost use Rattle.spec.specs.Pipeline.{Call};
+ghost use Rattle.math_conv.specs.Answer.{meaning};
+
+pub struct Pair {
+    pub first: Answer,
+    pub second: Answer,
+}
+
+// Converts two formulas, each with display on, a table of no records and buffers of its own. Where both are accepted and plain by the grammar, and they
+// differ in length or in any byte, so do their outputs.
+pub fn both(
+    formula1: &[u8],
+    work1: &mut [u8],
+    output1: &mut [u8],
+    formula2: &[u8],
+    work2: &mut [u8],
+    output2: &mut [u8],
+) -> Pair
+    ensures { λ r. ⌜ Call (now (formula1 .entry)) [] true (now (work1 .entry)) (now (output1 .entry)) (meaning (r .first)) (now (work1 .exit)) (now (output1 .exit)) ⌝ }
+    ensures { λ r. ⌜ Call (now (formula2 .entry)) [] true (now (work2 .entry)) (now (output2 .entry)) (meaning (r .second)) (now (work2 .exit)) (now (output2 .exit)) ⌝ }
+    ensures { λ r. ⌜ ((n m : ℕ) → r .first ≡ Answer.Done n → r .second ≡ Answer.Done m → Plain (now (formula1 .entry)) → Plain (now (formula2 .entry)) → now (formula1 .entry) ≢ now (formula2 .entry) → take n (now (output1 .exit)) ≢ take m (now (output2 .exit))) ⌝ }
+{
+    Pair {
+        first: typst_to_latex(formula1, b"", true, work1, output1),
+        second: typst_to_latex(formula2, b"", true, work2, output2),
+    }
+}

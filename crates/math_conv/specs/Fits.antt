@@ -1,0 +1,32 @@
+-- What a caller knows of a call's answer without its formula. Assumes nothing.
+--     call-fits    the byte count lies within the output buffer
+use mathlib.Core.Path.{_≡_, refl, sym, ap, _∙_}
+use mathlib.Core.Bool.{Bool, true, false, cond}
+use mathlib.Core.List.{List}
+use Prim.Native.Nat.{ℕ, _≤_}
+use native.Mathlib.Omega.{arith}
+use lib.Dec.{ltb}
+use lib.ListN.{length}
+use borrow.Author.Tests.{ltb-false}
+use Rattle.spec.specs.Result.{Result, passed, refused, _then_}
+use Rattle.spec.specs.Pipeline.{admitted, typstToLatex, fitting, converted, answerOf, Call}
+use Rattle.math_conv.specs.declared.Answer.{Answer}
+use Rattle.math_conv.specs.declared.Answer.the-variants.{Done}
+use Rattle.math_conv.specs.Answer.{meaning}
+
+fitting-fits : (output : List ℕ) {n : ℕ} (r : Result (List ℕ)) → passed n ≡ answerOf (r then fitting output) → n ≤ length output
+fitting-fits output (refused k) e = absurd (let z : _≡_ {A = ℕ} 0 1 = cc in omega arith)
+fitting-fits output {n} (passed s) e = go (ltb (length output) (length s)) refl e
+  where
+    go : (b : Bool) → ltb (length output) (length s) ≡ b → passed n ≡ answerOf (cond b (refused 10) (passed s)) → n ≤ length output
+    go true t e = absurd (let z : _≡_ {A = ℕ} 0 1 = cc in omega arith)
+    go false t e = let same : n ≡ length s = cc in omega (arith, ltb-false (length output) (length s) t)
+
+pub call-fits :
+    {formula table work output work′ output′ : List ℕ} {display : Bool} {answer : Answer} {n : ℕ}
+    → Call formula table display work output (meaning answer) work′ output′
+    → answer ≡ Done n
+    → n ≤ length output
+unfolding converted
+call-fits {formula} {table} {work} {output} {display = display} c e =
+    fitting-fits output (admitted formula table work then typstToLatex (c .order) display) (sym (ap meaning e) ∙ c .answers)
