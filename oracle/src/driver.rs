@@ -1,21 +1,30 @@
 //! The judge's commands. This file is a module below `math_conv.rs`, which is the crate's root (see oracle/build).
 
 mod cases;
+#[cfg(feature = "library")]
+mod compare;
 mod crosscheck;
 mod definitions;
 mod fractions;
 mod generate;
+#[cfg_attr(not(feature = "library"), allow(dead_code))]
+mod grammar;
 mod judge;
 mod lengths;
 mod pieces;
 mod plain;
+#[cfg(feature = "library")]
+mod plain_trial;
 mod record;
 mod rng;
+mod short;
+mod stages;
 mod table;
 mod tables;
 mod traps;
 mod word_tables;
 mod words;
+mod workers;
 
 use cases::Recorded;
 use judge::{Answer, Case};
@@ -24,22 +33,25 @@ use std::io::{BufRead, Write};
 const USAGE: &str = "judge show FORMULA [NAME=LATEX ..]   the answer for display on and off
 judge answer < LINES                 a line: display work output formula-hex table-hex (- for no bytes),
                                      answered by: number count output-hex
-judge record SEED [FILE]             writes the recorded cases (default oracle/cases.bin)
+judge record SEED [FILE]             writes the recorded cases (default crates/replay/data/cases.bin)
 judge dump [FILE]                    the recorded cases as lines: index family display work output formula-hex
                                      table-hex number output-hex
 judge check [FILE]                   answers the recorded cases again and compares
 judge generate SEED N                N generated cases as such lines
-judge crosscheck SEED N [FILE]       judges N generated cases and all recorded ones against the unchanged functions";
+judge crosscheck SEED N [FILE]       judges N generated cases and all recorded ones against the unchanged functions
+judge short [FILE]                   makes the list of short plain formulas (default crates/short_formulas/stdout): says
+                                     that the file is the same, or writes it
+judge stages < LINES                 each line by one stage or closing search, as the program calls_main answers it
+judge compare SEED N                 the library against the judge; only as oracle/trial builds it
+judge plain SEED N                   the library's plain check against another parser; only as oracle/trial builds it";
 
 /// The build folder is target/oracle of the repository.
-const RECORDED: &str = concat!(env!("CARGO_MANIFEST_DIR"), "/../../oracle/cases.bin");
+const RECORDED: &str = concat!(env!("CARGO_MANIFEST_DIR"), "/../../crates/replay/data/cases.bin");
 
-/// Sizing calls itself once for each nested pair of parentheses, so give it room.
-const STACK: usize = 1 << 28;
+const SHORT_FORMULAS: &str = concat!(env!("CARGO_MANIFEST_DIR"), "/../../crates/short_formulas/stdout");
 
 pub fn main() {
-    let thread = std::thread::Builder::new().stack_size(STACK).spawn(run).unwrap();
-    if !matches!(thread.join(), Ok(true)) {
+    if workers::with_room(run) != Some(true) {
         std::process::exit(1);
     }
 }
@@ -60,6 +72,13 @@ fn run() -> bool {
         ["generate", seed, n] => generate(number(seed), number(n)),
         ["crosscheck", seed, n] => crosscheck(number(seed), number(n), RECORDED),
         ["crosscheck", seed, n, file] => crosscheck(number(seed), number(n), file),
+        ["short"] => short(SHORT_FORMULAS),
+        ["short", file] => short(file),
+        ["stages"] => stages::stages(),
+        #[cfg(feature = "library")]
+        ["compare", seed, n] => compare::compare(number(seed), number(n), &read_recorded(RECORDED)),
+        #[cfg(feature = "library")]
+        ["plain", seed, n] => plain_trial::trial(number(seed), number(n)),
         _ => {
             eprintln!("{USAGE}");
             false
@@ -158,29 +177,33 @@ fn generate(seed: u64, n: u64) -> bool {
     }))
 }
 
+fn short(file: &str) -> bool {
+    let list = short::list();
+    let same = std::fs::read(file).is_ok_and(|bytes| bytes == list.as_bytes());
+    if !same {
+        std::fs::write(file, &list).expect("the file can be written");
+    }
+    println!("{}: {}", if same { "same" } else { "written" }, list.lines().last().unwrap());
+    true
+}
+
 fn crosscheck(seed: u64, n: u64, file: &str) -> bool {
     std::panic::set_hook(Box::new(|_| {}));
     let fresh = check(file);
-    let recorded = std::sync::Arc::new(read_recorded(file));
-    let mut findings = crosscheck::Findings::default();
-    let workers = std::thread::available_parallelism().map_or(1, usize::from) as u64;
-    let part = move |worker: u64, recorded: &[Recorded]| {
+    let recorded = read_recorded(file);
+    let parts = workers::parts(|worker, workers| {
         let mut findings = crosscheck::Findings::default();
-        for r in recorded.iter().skip(worker as usize).step_by(workers as usize) {
+        for r in recorded.iter().skip(worker).step_by(workers) {
             crosscheck::check(&r.case, &mut findings);
         }
-        for index in (worker..n).step_by(workers as usize) {
+        for index in (worker as u64..n).step_by(workers) {
             crosscheck::check(&generate::any(seed, index).1, &mut findings);
         }
         findings
-    };
-    let thread = |worker: u64| {
-        let recorded = recorded.clone();
-        std::thread::Builder::new().stack_size(STACK).spawn(move || part(worker, &recorded)).unwrap()
-    };
-    let threads: Vec<_> = (0..workers).map(thread).collect();
-    for thread in threads {
-        findings.join(thread.join().expect("a worker ends"));
+    });
+    let mut findings = crosscheck::Findings::default();
+    for part in parts {
+        findings.join(part);
     }
     println!("{n} generated cases (seed {seed})");
     for (check, count) in &findings.counts {

@@ -10,19 +10,19 @@ use super::{lengths, tables, traps};
 
 /// How many cases of each generated family, and how many bytes their formulas may have.
 const SHARES: [(&str, usize, usize); 13] = [
-    ("names", 40, 100),
-    ("expressions", 260, 110),
-    ("soup", 220, 90),
-    ("mutated", 260, 90),
-    ("bytes", 120, 60),
-    ("calls", 100, 110),
-    ("quotients", 240, 110),
-    ("blocks", 140, 110),
-    ("finishing", 140, 100),
-    ("plain", 120, 120),
-    ("near plain", 60, 110),
-    ("defined", 260, 110),
-    ("buffers", 140, 90),
+    ("names", 400, 100),
+    ("expressions", 900, 110),
+    ("soup", 700, 90),
+    ("mutated", 800, 90),
+    ("bytes", 300, 60),
+    ("calls", 400, 110),
+    ("quotients", 800, 110),
+    ("blocks", 500, 110),
+    ("finishing", 500, 100),
+    ("plain", 300, 120),
+    ("near plain", 200, 110),
+    ("defined", 1_000, 110),
+    ("buffers", 900, 90),
 ];
 
 struct Recorder {

@@ -1,0 +1,48 @@
+-- `formula::first_line::first_line` meets its contract: by the law for each way through it. Assumes nothing.
+use mathlib.Core.Path.{_∙_}
+use native.Mathlib.Omega.{arith}
+use Rattle.formula.specs.Input.{first-none, first-alone, first-ended, first-longer}
+use borrow.Author.Needs.{needs}
+use Rattle.formula.proofs.first_line.first_line.Statement.{statement}
+use Rattle.formula.proofs.first_line.first_line.Tie as tie
+
+returns : tie.Need-returns
+returns c = first-none (c .before .before .args .input .now) (c .if1 .taken)
+
+shared-slice-read-display : tie.Need-shared-slice-read-display
+shared-slice-read-display c = search needs
+
+display-requires : tie.Need-display-requires
+display-requires c κs = search needs
+
+returns-2 : tie.Need-returns-2
+returns-2 c = c .display .ensures ∙ first-alone (c .before .before .before .before .before .args .input .now) (c .before .before .if2 .taken)
+
+shared-slice-read-if3 : tie.Need-shared-slice-read-if3
+shared-slice-read-if3 c = search needs
+
+shared-slice-read-display-2 : tie.Need-shared-slice-read-display-2
+shared-slice-read-display-2 c = search needs
+
+display-requires-2 : tie.Need-display-requires-2
+display-requires-2 c κs = search needs
+
+returns-3 : tie.Need-returns-3
+returns-3 c = c .display2 .ensures ∙ first-ended (c .before .before .before .before .before .before .before .args .input .now) (omega arith) (c .before .before .if3 .taken)
+
+returns-4 : tie.Need-returns-4
+returns-4 c = first-longer (c .before .before .before .before .before .args .input .now) (omega arith) (c .if3 .left)
+
+pub first-line-spec : {M : Type 1} → statement M
+first-line-spec =
+    tie.close
+    (tie.spec
+    returns
+    shared-slice-read-display
+    display-requires
+    returns-2
+    shared-slice-read-if3
+    shared-slice-read-display-2
+    display-requires-2
+    returns-3
+    returns-4)

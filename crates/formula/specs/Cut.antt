@@ -1,0 +1,75 @@
+-- Reading stops one byte behind the limits of a formula and of a table, and the answer is that of the whole. Assumes nothing.
+--     call-cut    a call on what was read is a call on all that there is to read
+use mathlib.Core.Path.{_≡_, refl, sym, ap, _∙_, subst}
+use mathlib.Core.Bool.{Bool, true, false, cond}
+use mathlib.Core.List.{List, []}
+use mathlib.Core.Option.{Option, none, Option·getD}
+use Prim.Native.Nat.{ℕ, _+_, _<_}
+use native.Mathlib.Omega.{arith}
+use lib.Dec.{ltb}
+use lib.ListN.{length, take, length-take}
+use lib.Seq.{take-all}
+use borrow.Author.Tests.{lt-ltb, ltb-true, ltb-false}
+use Rattle.spec.specs.Symbols.{foreign, any}
+use Rattle.spec.specs.Result.{Result, refused, _then_}
+use Rattle.spec.specs.Table.{Definition, definitions, mostBytes, Order}
+use Rattle.spec.specs.Pipeline.{mostFormula, leastWork, admitted, typstToLatex, fitting, converted, answerOf, outputAfter, workAfter, Call}
+
+-- a text cut behind a limit is whole, or beyond the limit as the whole is
+data Cut (most : ℕ) (s t : List ℕ) : Type 0 where
+  whole : t ≡ s → Cut most s t
+  beyond : most < length s → most < length t → Cut most s t
+
+cut : (most : ℕ) (s : List ℕ) → Cut most s (take (most + 1) s)
+cut most s = go (ltb (most + 1) (length s)) refl
+  where
+    go : (b : Bool) → ltb (most + 1) (length s) ≡ b → Cut most s (take (most + 1) s)
+    go true e = let h = ltb-true (most + 1) (length s) e in beyond (omega arith) (simp length-take (omega arith))
+    go false e = whole (take-all (most + 1) s (ltb-false (most + 1) (length s) e))
+
+long-faulty : (table : List ℕ) → mostBytes < length table → definitions table ≡ none
+unfolding definitions
+long-faulty table h = rw (lt-ltb mostBytes (length table) h, definitions)
+
+definitions-cut : {table read : List ℕ} → Cut mostBytes table read → definitions read ≡ definitions table
+definitions-cut (whole e) = ap definitions e
+definitions-cut {table} {read} (beyond h k) = long-faulty read k ∙ sym (long-faulty table h)
+
+long-refused : (formula table work : List ℕ) → mostFormula < length formula → admitted formula table work ≡ cond (ltb (length work) leastWork) (refused 4) (refused 2)
+long-refused formula table work h = go (ltb (length work) leastWork) refl
+  where
+    go : (b : Bool) → ltb (length work) leastWork ≡ b → admitted formula table work ≡ cond b (refused 4) (refused 2)
+    go true e = rw (e, admitted)
+    go false e = rw (e, admitted, lt-ltb mostFormula (length formula) h)
+
+same-admitted : (formula table read work : List ℕ) → definitions read ≡ definitions table → admitted formula read work ≡ admitted formula table work
+same-admitted formula table read work e = go (ltb (length work) leastWork) (ltb mostFormula (length formula)) (any foreign formula) refl refl refl
+  where
+    go : (a b c : Bool) → ltb (length work) leastWork ≡ a → ltb mostFormula (length formula) ≡ b → any foreign formula ≡ c → admitted formula read work ≡ admitted formula table work
+    go true b c p q r = rw (p, admitted)
+    go false true c p q r = rw (p, admitted, q)
+    go false false true p q r = rw (p, admitted, q, r)
+    go false false false p q r = rw (p, admitted, q, r, e)
+
+admitted-cut : {formula front : List ℕ} (table read work : List ℕ) → Cut mostFormula formula front → definitions read ≡ definitions table → admitted front read work ≡ admitted formula table work
+admitted-cut {formula} table read work (whole e) d = ap (λ (s : List ℕ). admitted s read work) e ∙ same-admitted formula table read work d
+admitted-cut {formula} {front} table read work (beyond h k) d = long-refused front read work k ∙ sym (long-refused formula table work h)
+
+pub call-cut : {formula table work output work′ output′ : List ℕ} {display : Bool} {answer : Result ℕ}
+    → Call (take 4097 formula) (take 32769 table) display work output answer work′ output′
+    → Call formula table display work output answer work′ output′
+unfolding converted
+call-cut {formula} {table} {work} {output} {display = display} c =
+    record {
+      order = c .order;
+      ordered = subst (λ ds. Order ds (c .order)) (ap (λ (o : Option (List Definition)). Option·getD o []) same-table) (c .ordered);
+      answers = c .answers ∙ ap answerOf same;
+      clears = c .clears ∙ ap (λ r. workAfter r work) same;
+      writes = c .writes ∙ ap (λ r. outputAfter r output) same;
+    }
+  where
+    same-table : definitions (take 32769 table) ≡ definitions table
+    same-table = definitions-cut (cut mostBytes table)
+
+    same : converted (c .order) (take 4097 formula) (take 32769 table) display work output ≡ converted (c .order) formula table display work output
+    same = ap (λ r. r then typstToLatex (c .order) display then fitting output) (admitted-cut table (take 32769 table) work (cut mostFormula formula) same-table)

@@ -1,0 +1,4 @@
+-- What the program's contracts cite.
+pub mod Input
+pub mod Taken
+pub mod Cut

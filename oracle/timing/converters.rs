@@ -1,0 +1,107 @@
+//! The three converters on one text, display on and no definitions.
+
+use super::clock::seconds;
+use crate::{as_is, kept};
+use std::collections::HashMap;
+use std::hint::black_box;
+use std::panic::{catch_unwind, AssertUnwindSafe};
+
+/// Repetitions of which the fastest counts; the three take turns.
+const TURNS: usize = 7;
+/// A turn has as many calls as fit in so many seconds.
+const TURN: f64 = 0.004;
+/// Where one call of the Rust takes longer than this, two turns more are enough.
+const LONG_CALL: f64 = 0.05;
+
+pub struct Converters {
+    work: Vec<u8>,
+    output: Vec<u8>,
+    none: HashMap<String, String>,
+}
+
+impl Default for Converters {
+    fn default() -> Self {
+        Converters { work: vec![0; jistranu::WORK_BYTES], output: vec![0; jistranu::OUTPUT_BYTES], none: HashMap::new() }
+    }
+}
+
+/// Seconds of a call, and the number of the library's refusal, or 0.
+#[derive(Clone, Copy)]
+pub struct Times {
+    pub ours: f64,
+    pub kept: f64,
+    pub as_is: f64,
+    pub refused: u8,
+}
+
+impl Converters {
+    fn ours(&mut self, formula: &str) -> Result<&[u8], jistranu::Refusal> {
+        jistranu::convert(formula.as_bytes(), b"", true, &mut self.work, &mut self.output)
+    }
+
+    /// The number of the refusal, or 0.
+    pub fn refused(&mut self, formula: &str) -> u8 {
+        self.ours(formula).map_or_else(jistranu::Refusal::number, |_| 0)
+    }
+
+    fn kept(&self, formula: &str) -> String {
+        kept::typst_to_latex(formula, &self.none, true)
+    }
+
+    fn as_is(&self, formula: &str) -> String {
+        as_is::typst_to_latex(formula, &self.none, true)
+    }
+
+    /// All three must give the same LaTeX, unless the library refuses the text. None where the Rust panics: the library must
+    /// refuse that.
+    fn compared(&mut self, formula: &str) -> Option<u8> {
+        let as_is = unless_panic(|| self.as_is(formula));
+        let kept = unless_panic(|| self.kept(formula));
+        assert!(kept == as_is, "kept expressions change the answer to {formula:?}");
+        let ours = self.ours(formula).map(|latex| Some(latex) == as_is.as_ref().map(String::as_bytes));
+        assert!(ours != Ok(false), "another answer to {formula:?}");
+        as_is.map(|_| ours.map_or_else(jistranu::Refusal::number, |_| 0))
+    }
+
+    pub fn time_ours(&mut self, calls: u32, formula: &str) -> f64 {
+        seconds(calls, || {
+            let _ = black_box(self.ours(black_box(formula)));
+        })
+    }
+
+    pub fn time_kept(&self, calls: u32, formula: &str) -> f64 {
+        seconds(calls, || drop(black_box(self.kept(black_box(formula)))))
+    }
+
+    fn time_as_is(&self, calls: u32, formula: &str) -> f64 {
+        seconds(calls, || drop(black_box(self.as_is(black_box(formula)))))
+    }
+
+    /// None where the Rust panics.
+    pub fn times(&mut self, formula: &str) -> Option<Times> {
+        let refused = self.compared(formula)?;
+        let calls = |once: f64| (TURN / once).clamp(1.0, 2_000.0) as u32;
+        let mut best = Times {
+            ours: self.time_ours(1, formula),
+            kept: self.time_kept(1, formula),
+            as_is: self.time_as_is(1, formula),
+            refused,
+        };
+        let (ours, kept, as_is) = (calls(best.ours), calls(best.kept), calls(best.as_is));
+        for _ in 0..if best.as_is > LONG_CALL { 2 } else { TURNS } {
+            best.ours = best.ours.min(self.time_ours(ours, formula));
+            best.kept = best.kept.min(self.time_kept(kept, formula));
+            best.as_is = best.as_is.min(self.time_as_is(as_is, formula));
+        }
+        Some(best)
+    }
+}
+
+/// What a function of the Rust gives, or None where it panics.
+pub fn unless_panic<T>(f: impl FnOnce() -> T) -> Option<T> {
+    let hook = std::panic::take_hook();
+    std::panic::set_hook(Box::new(|_| {}));
+    let result = catch_unwind(AssertUnwindSafe(f)).ok();
+    std::panic::set_hook(hook);
+    result
+}
