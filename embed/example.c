@@ -1,0 +1,47 @@
+/* Converts some correction formulas of a calibration bench, with one definition. Built and run by embed/run-c. */
+#include "jistranu.h"
+
+#include <stdio.h>
+#include <string.h>
+
+static uint8_t work[JISTRANU_WORK_BYTES];
+static uint8_t output[JISTRANU_OUTPUT_BYTES];
+static uint8_t table[JISTRANU_TABLE_BYTES];
+static size_t table_len;
+
+/* Appends one record. The lengths are within the limits of jistranu.h, and the table has room. */
+static void define(const char *name, const char *latex)
+{
+    size_t name_len = strlen(name), latex_len = strlen(latex);
+    size_t header = name_len << 10 | latex_len;
+    table[table_len++] = (uint8_t)(header >> 8);
+    table[table_len++] = (uint8_t)header;
+    memcpy(table + table_len, name, name_len);
+    memcpy(table + table_len + name_len, latex, latex_len);
+    table_len += name_len + latex_len;
+}
+
+static void convert(const char *formula)
+{
+    size_t count, atoms;
+    uint64_t answer = jistranu_typst_to_latex(
+        (const uint8_t *)formula, strlen(formula), table, table_len, true,
+        work, sizeof work, output, sizeof output, &count);
+    if (answer == JISTRANU_DONE)
+        printf("%s\n    %.*s\n", formula, (int)count, (const char *)output);
+    else
+        printf("%s\n    refused %d\n", formula, (int)answer);
+    if (jistranu_plain_check((const uint8_t *)formula, strlen(formula), &atoms))
+        printf("    plain, %zu atoms\n", atoms);
+}
+
+int main(void)
+{
+    define("gain", "\\mathrm{G}");
+    convert("(a + 1)/b");
+    convert("U_1 = U_0 10^(gain/20)");
+    convert("L = 20 log_10 (U/U_0) \"dB\"");
+    convert("f_0 = 1/(2 pi sqrt(L C))");
+    convert("lr(|)");
+    return 0;
+}

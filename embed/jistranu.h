@@ -1,0 +1,77 @@
+/* Typst math in, LaTeX out: the functions of libjistranu.a, which `embed/library` builds (`rt staticlib jistranu`).
+ *
+ * The library allocates nothing, keeps nothing between two calls and calls nothing but memset, so any number of threads
+ * may call it, each with buffers of its own.
+ *
+ * A conversion takes up to 0.8 MB of stack, a plain check up to 4.2 MB: about 1 KB for each parenthesis that is open.
+ *
+ * Pointers are never null. Where a length is 0, the pointer may be any other, as that of an empty string.
+ * `work`, `output` and `count` overlap neither each other nor the formula and the table.
+ */
+#ifndef JISTRANU_H
+#define JISTRANU_H
+
+#include <stdbool.h>
+#include <stddef.h>
+#include <stdint.h>
+
+#ifdef __cplusplus
+extern "C" {
+#endif
+
+enum {
+    JISTRANU_FORMULA_BYTES = 4096, /* a formula has at most this many bytes */
+    JISTRANU_TABLE_BYTES = 32768,  /* a definition table has at most this many bytes, */
+    JISTRANU_TABLE_RECORDS = 64,   /* and this many definitions */
+    JISTRANU_NAME_BYTES = 63,      /* a defined name has at most this many bytes, */
+    JISTRANU_LATEX_BYTES = 1023,   /* and its LaTeX this many */
+    JISTRANU_WORK_BYTES = 32768,   /* a call is lent at least this many bytes to work in */
+    JISTRANU_OUTPUT_BYTES = 8192,  /* no answer is longer: with this room, number 10 is never met */
+};
+
+/* What a call answers: 0, or why there is no LaTeX. Where several reasons hold, 4 comes first, then 2, 1 and 3, then the
+ * first of 5 to 9 that is met on the way, and 10 last. */
+enum jistranu_answer {
+    JISTRANU_DONE = 0,
+    JISTRANU_FOREIGN_BYTE = 1,   /* the formula holds something else than ASCII text, tabs and newlines */
+    JISTRANU_LONG_FORMULA = 2,   /* the formula has more than 4,096 bytes */
+    JISTRANU_FAULTY_TABLE = 3,   /* the definition table is too long, is cut off, or has a bad or repeated name or bad LaTeX */
+    JISTRANU_NARROW_WORK = 4,    /* the work buffer has less than 32,768 bytes */
+    JISTRANU_OVERGROWN = 5,      /* the text grows above 8,192 symbols on its way to LaTeX */
+    JISTRANU_LOST_BLOCK = 6,     /* a piece of quoted text would be lost, as in upright(a "b") */
+    JISTRANU_UNSETTLED = 7,      /* more than 64 fractions stand one within the other */
+    JISTRANU_BARE_DELIMITER = 8, /* lr encloses a delimiter and nothing else, as in lr(|) */
+    JISTRANU_BARRED_SOLIDUS = 9, /* a denominator within bars holds an escaped slash, as in a/abs(b \/ c) */
+    JISTRANU_SHORT_OUTPUT = 10,  /* the LaTeX is longer than the output buffer */
+};
+
+/* Converts a formula. `display`: whether a/b becomes \frac{a}{b}, as in a formula on a line of its own.
+ *
+ * Answers JISTRANU_DONE, and the LaTeX is the first *count bytes of `output` (no 0 byte is added); or another number of
+ * enum jistranu_answer, and *count is 0. No other byte of `output` is written. All of `work` is zero afterwards, whatever
+ * stood there; after JISTRANU_NARROW_WORK it is untouched.
+ *
+ * The table is any number of records, one after the other. A record is a header of two bytes, name length times 1,024 plus
+ * LaTeX length, most significant byte first; then the name; then the LaTeX. A name is letters and digits and begins with a
+ * letter; names of one letter are read and left alone. LaTeX is ASCII text, tabs and newlines, without `$`.
+ */
+uint64_t jistranu_typst_to_latex(
+    const uint8_t *formula, size_t formula_len,
+    const uint8_t *table, size_t table_len,
+    bool display,
+    uint8_t *work, size_t work_len,
+    uint8_t *output, size_t output_len,
+    size_t *count);
+
+/* Whether a formula is plain: sums, products, fractions and scripts of single letters, Greek names and numbers, in the one
+ * spelling that the grammar allows. *atoms is then how many of those it has, one-letter scripts not counted; else 0.
+ *
+ * Two different plain formulas, converted with display on and no table, never give the same LaTeX.
+ */
+bool jistranu_plain_check(const uint8_t *formula, size_t formula_len, size_t *atoms);
+
+#ifdef __cplusplus
+}
+#endif
+
+#endif
