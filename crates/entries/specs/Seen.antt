@@ -2,21 +2,23 @@
 --     Seen, SeenIn    a table with 1 at each byte that occurs in a text, or in a formula on its way
 --     Seeing          the same of the symbols up to a place
 --     missing         whether a byte of the pattern has no 1
+--     nowhere         whether a pattern does not occur in a formula on its way
 -- Assumes nothing.
 use mathlib.Core.Path.{_≡_, refl, sym, ap, _∙_, subst}
-use mathlib.Core.Bool.{Bool, true, false, _&&_, _||_, and-false, false≢true}
+use mathlib.Core.Bool.{Bool, true, false, not, _&&_, _||_, and-false, false≢true}
 use mathlib.Core.List.{List, [], _∷_}
-use mathlib.Core.Option.{none}
+use mathlib.Core.Option.{Option, none, some}
 use Prim.Native.Nat.{ℕ, _+_, _-_, _≤_, _<_}
 use lib.Dec.{eqb}
 use lib.ListN.{length, getD, set, drop}
 use lib.Seq.{getD-set-same, getD-set-other}
 use borrow.Author.Tests.{eqb-true, eqb-false, eq-eqb}
-use Rattle.spec.specs.Symbols.{any, starts, find}
+use Rattle.spec.specs.Symbols.{any, starts, find, contains}
 use Rattle.spec.specs.Sweep.{Rule, sweep}
 use Rattle.spec.specs.Laws.Symbols.{any-more, any-end, find-past}
 use Rattle.spec.specs.Laws.Sweep.{Waits}
 use Rattle.text.specs.Parts.{part, whole-part}
+use Rattle.text.specs.Search.{isSome, contains-find}
 use Rattle.text.specs.Stage.{Ready}
 use Rattle.text.specs.declared.Refusal.{Refusal}
 use Rattle.text.specs.declared.Progress.{Progress}
@@ -97,11 +99,29 @@ unfolding find
 find-missing table pattern [] r e = refl
 find-missing table pattern (x ∷ s) r e = find-past pattern x s (starts-missing table pattern (x ∷ s) r e) ∙ find-missing table pattern s (later r) e
 
+-- ---- a pattern that is nowhere
+abbrev pub nowhere : Progress → List ℕ → List ℕ → Bool
+nowhere (Text at n) w pattern = not (contains pattern (part at n w))
+nowhere (Refused k) w pattern = true
+
+module _ (w pattern : List ℕ) {p : Progress} {from n : ℕ} (e : p ≡ Text from n) where
+  pub nowhere-missing : {table : List ℕ} → SeenIn table w p → missing table pattern ≡ true → true ≡ nowhere p w pattern
+  nowhere-missing {table} seen f =
+      ap (λ o. not (isSome o)) (sym (find-missing table pattern (part from n w) (seen .text from n e) f))
+      ∙ ap not (contains-find pattern (part from n w))
+      ∙ ap (λ q. nowhere q w pattern) (sym e)
+
+  pub nowhere-searched : {r : Bool} → r ≡ contains pattern (part from (from + n - from) w) → not r ≡ nowhere p w pattern
+  nowhere-searched f = ap not (f ∙ ap (contains pattern) (whole-part from n w)) ∙ ap (λ q. nowhere q w pattern) (sym e)
+
+none-found : (o : Option (List ℕ)) → not (isSome o) ≡ true → o ≡ none
+none-found none e = refl
+none-found (some s) e = absurd (false≢true e)
+
 -- the entry's stage leaves every byte as it is
-pub applied-missing :
-    {w : List ℕ} {p : Progress} {table pattern : List ℕ} {rule : Rule} (extra : ℕ) → Ready w p → Within extra p → Waits pattern rule → SeenIn table w p
-    → missing table pattern ≡ true
+pub applied-idle :
+    {w : List ℕ} {p : Progress} {pattern : List ℕ} {rule : Rule} (extra : ℕ) → Ready w p → Within extra p → Waits pattern rule → nowhere p w pattern ≡ true
     → Applied w w p p extra pattern (sweep rule 0 0)
-applied-missing {w} {p = Text at n} {table} {pattern} extra ready within waits seen e =
-    applied-nowhere extra ready within refl waits (find-missing table pattern (part at n w) (seen .text at n refl) e)
-applied-missing {p = Refused k} {pattern = pattern} {rule = rule} extra ready within waits seen e = applied-refused extra pattern (sweep rule 0 0) k refl
+applied-idle {w} {p = Text at n} {pattern} extra ready within waits e =
+    applied-nowhere extra ready within refl waits (none-found (find pattern (part at n w)) (ap not (contains-find pattern (part at n w)) ∙ e))
+applied-idle {p = Refused k} {pattern = pattern} {rule = rule} extra ready within waits e = applied-refused extra pattern (sweep rule 0 0) k refl

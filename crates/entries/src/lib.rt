@@ -6,7 +6,7 @@ mod bounds;
 mod presence;
 
 pub use bounds::Bounds;
-pub use presence::is_missing;
+pub use presence::is_nowhere;
 pub use presence::seen;
 use text::Found;
 use text::Progress;

@@ -1,8 +1,8 @@
-// The bytes that occur in a text. An entry with a byte that does not is known to be nowhere, and costs no search.
+// The bytes that occur in a text. A pattern with a byte that does not is known to be nowhere, and costs no search.
 use text::Progress;
 ghost use mathlib.Core.Path.{_≡_};
 ghost use Rattle.text.specs.Stage.{Ready};
-ghost use Rattle.entries.specs.Seen.{Seen, SeenIn, missing};
+ghost use Rattle.entries.specs.Seen.{Seen, SeenIn, missing, nowhere};
 
 // 1 for each byte that occurs.
 fn seen_bytes(s: &[u8]) -> [u8; 256]
@@ -29,7 +29,7 @@ pub fn seen(work: &[u8], text: Progress) -> [u8; 256]
 }
 
 // Whether a byte of the pattern does not occur.
-pub fn is_missing(seen: &[u8; 256], pattern: &[u8]) -> bool
+fn is_missing(seen: &[u8; 256], pattern: &[u8]) -> bool
     ensures { λ r. ⌜ r ≡ missing (now (seen .entry)) (now (pattern .entry)) ⌝ }
 {
     for i in 0..pattern.len() {
@@ -39,4 +39,20 @@ pub fn is_missing(seen: &[u8; 256], pattern: &[u8]) -> bool
         }
     }
     false
+}
+
+// Whether the pattern is nowhere in a formula on its way. A byte of it that does not occur spares the search.
+pub fn is_nowhere(work: &[u8], text: Progress, seen: &[u8; 256], pattern: &[u8]) -> bool
+    requires { ⌜ Ready (now work) text ⌝ }
+    requires { ⌜ SeenIn (now seen) (now work) text ⌝ }
+    ensures { λ r. ⌜ r ≡ nowhere text (now (work .entry)) (now (pattern .entry)) ⌝ }
+{
+    let Progress::Text(from, n) = text else {
+        return true;
+    };
+    if is_missing(seen, pattern) {
+        return true;
+    }
+    let end = from + n;
+    !text::contains(&work[from..end], pattern)
 }

@@ -100,7 +100,7 @@ abbrev pub isSome : Option (List ℕ) → Bool
 isSome none = false
 isSome (some t) = true
 
-contains-find : (w s : List ℕ) → isSome (find w s) ≡ contains w s
+pub contains-find : (w s : List ℕ) → isSome (find w s) ≡ contains w s
 unfolding find
 contains-find w [] = refl
 contains-find w (x ∷ s) = go (starts w (x ∷ s)) (contains-find w s)

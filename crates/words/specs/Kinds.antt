@@ -16,7 +16,7 @@ use Rattle.entries.specs.declared.bounds.Bounds.the-variants as around
 use Rattle.text.specs.Stage.{Ready}
 use Rattle.entries.specs.Bounded.{bounded, bounded-waits, literal-bounded, greek-bounded, word-bounded, capital-bounded}
 use Rattle.entries.specs.Sized.{sized, sized-none, Within, Applied, applied-alike}
-use Rattle.entries.specs.Seen.{SeenIn, missing, applied-missing}
+use Rattle.entries.specs.Seen.{nowhere, applied-idle}
 use Rattle.text.specs.declared.Progress.{Progress}
 use Rattle.words.specs.declared.Kind.{Kind}
 use Rattle.words.specs.declared.Kind.the-variants.{Literal, Greek, Word, Capital}
@@ -55,14 +55,13 @@ row-applied kind row {w} {w′} {p} {p′} {extra} {b} {typst} {latex} e f g a =
     (subst₂ (λ t l. Applied w w′ p p′ extra t (sweep (bounded (boundsOf kind t) t l) 0 0)) e f
     (subst (λ c. Applied w w′ p p′ extra typst (sweep (bounded c typst latex) 0 0)) g a))
 
--- a row that is passed over, since a byte of its name does not occur
-pub row-missing :
-    (kind : Kind) (row : Row) {w : List ℕ} {p : Progress} {table : List ℕ} (extra : ℕ) → Ready w p → Within extra p → SeenIn table w p
-    → missing table (row .typst) ≡ true
+-- a row that is passed over, since its name is nowhere
+pub row-nowhere :
+    (kind : Kind) (row : Row) {w : List ℕ} {p : Progress} (extra : ℕ) → Ready w p → Within extra p → nowhere p w (row .typst) ≡ true
     → Applied w w p p extra (row .typst) (sweep (ruleOf kind row) 0 0)
-row-missing kind row extra ready within seen e =
+row-nowhere kind row extra ready within e =
     applied-alike (sweep (ruleOf kind row) 0 0) (rule-bounded kind row)
-    (applied-missing extra ready within (bounded-waits (boundsOf kind (row .typst)) (row .typst) (row .latex)) seen e)
+    (applied-idle extra ready within (bounded-waits (boundsOf kind (row .typst)) (row .typst) (row .latex)) e)
 
 -- ---- the rows of a table
 unfoldable pub sizedRows : ℕ → (Row → Rule) → List Row → List ℕ → Result (List ℕ)

@@ -9,7 +9,7 @@ ghost use lib.ListN.{length, getD};
 ghost use Rattle.spec.specs.Sweep.{sweep};
 ghost use Rattle.spec.specs.Words.{literal};
 ghost use Rattle.text.specs.Stage.{Ready};
-ghost use Rattle.entries.specs.Seen.{missing};
+ghost use Rattle.entries.specs.Seen.{SeenIn, nowhere};
 ghost use Rattle.entries.specs.Sized.{Within, Applied, StagedWithin};
 ghost use Rattle.words.specs.Rows.{rowAt, fairRow, rowsOf, fairTable};
 ghost use Rattle.words.specs.Kinds.{boundsOf, ruleOf, sizedRows};
@@ -57,15 +57,17 @@ fn end_of(table: &[u8], at: usize) -> usize
     at + 1 + (table[at] as usize)
 }
 
-// Whether a byte of row k's name does not occur.
-fn is_row_missing(seen: &[u8; 256], table: &[u8], k: usize) -> bool
+// Whether row k's name is nowhere in the text.
+fn is_row_nowhere(work: &[u8], text: Progress, seen: &[u8; 256], table: &[u8], k: usize) -> bool
+    requires { ⌜ Ready (now work) text ⌝ }
+    requires { ⌜ SeenIn (now seen) (now work) text ⌝ }
     requires { ⌜ fairRow (now table) k ≡ true ⌝ }
-    ensures { λ r. ⌜ r ≡ missing (now (seen .entry)) (rowAt (now (table .entry)) k .typst) ⌝ }
+    ensures { λ r. ⌜ r ≡ nowhere text (now (work .entry)) (rowAt (now (table .entry)) k .typst) ⌝ }
 {
     let at = k * ROW;
     let typst = at + 1;
     let end = end_of(table, at);
-    entries::is_missing(seen, &table[typst..end])
+    entries::is_nowhere(work, text, seen, &table[typst..end])
 }
 
 // Applies row k.
@@ -99,7 +101,7 @@ fn apply_row(
     )
 }
 
-// Applies a table's rows in order, each a stage of its own. A row with a byte that the text lacks is passed over.
+// Applies a table's rows in order, each a stage of its own. A row whose name is nowhere is passed over, so the bytes that occur stay known.
 pub fn apply_rows(
     work: &mut [u8],
     text: Progress,
@@ -117,7 +119,7 @@ pub fn apply_rows(
     let mut seen = entries::seen(work, done);
     let mut k = 0;
     while k < rows {
-        if is_row_missing(&seen, table, k) {
+        if is_row_nowhere(work, done, &seen, table, k) {
             k += 1;
             continue;
         }
