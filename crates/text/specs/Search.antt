@@ -10,10 +10,12 @@ use mathlib.Core.Option.{Option, none, some}
 use Prim.Native.Nat.{ℕ, zero, suc, _+_, _-_, _≤_, _<_, pred}
 use native.Mathlib.Decide.{decLt}
 use native.Mathlib.Omega.{arith}
+use lib.Dec.{eqb}
 use lib.ListN.{length, getD, take, drop, length-drop}
+use borrow.Author.Tests.{eqb-false}
 use lib.Seq.{drop-drop}
-use Rattle.spec.specs.Laws.Symbols.{drop-step, starts-other, find-drop}
-use Rattle.spec.specs.Symbols.{inside, until, starts, find, contains}
+use Rattle.spec.specs.Laws.Symbols.{drop-step, any-end, starts-other, find-drop}
+use Rattle.spec.specs.Symbols.{any, inside, until, starts, find, contains}
 use Rattle.text.specs.Parts.{part, rest-of}
 use Rattle.text.specs.declared.Found.{Found}
 use Rattle.text.specs.declared.Found.the-variants.{At, Nothing}
@@ -59,6 +61,16 @@ module _ {s : List ℕ} {r : Found} {o : Option (List ℕ)} where
   pub closes-nothing : Closes s r o → r ≡ Nothing → o ≡ none
   closes-nothing f e = sym (f .left) ∙ ap (leftOver s) e
 
+-- ---- a loop that looks at every symbol: what was met, or the symbols from i on, decide
+module _ (f : ℕ → Bool) (s : List ℕ) (i : ℕ) where
+  pub any-met : (t : Bool) → i < length s → (t || f (getD s i 0) || any f (drop (i + 1) s)) ≡ (t || any f (drop i s))
+  any-met true h = refl
+  any-met false h = sym (ap (any f) (drop-step s i h))
+
+  pub any-all : (t : Bool) → length s ≤ i → (t || any f (drop i s)) ≡ t
+  any-all true h = refl
+  any-all false h = any-end f s i h
+
 -- ---- the next place of a symbol
 -- from i on, the symbol stands at r for the first time, or nowhere
 pub record Sought (s : List ℕ) (i b r : ℕ) : Type 0 where
@@ -80,6 +92,34 @@ sought-more {s} {i} {b} {r} q h other =
   where
     before : (k : ℕ) → k < r + 1 → (k < r) ⊎ (k ≡ r)
     before k m = elim (decLt k r) [ yes z ↦ inl z | no z ↦ inr (omega arith) ]
+
+-- a part that the symbol is not among is passed over as a whole
+absent-part : (s : List ℕ) (b n r : ℕ) → r + n ≤ length s → any (λ x. eqb x b) (part r n s) ≡ false → (k : ℕ) → r ≤ k → k < r + n → getD s k 0 ≡ b → ⊥
+absent-part s b zero r h absent k l m e = absurd (omega arith)
+absent-part s b (suc n) r h absent k l m e =
+    go (eqb (getD s r 0) b) refl (sym (ap (any (λ x. eqb x b)) (ap (take (suc n)) (drop-step s r (omega arith)))) ∙ absent) (absent-part s b n (r + 1) (omega arith))
+  where
+    go :
+        (t : Bool) → eqb (getD s r 0) b ≡ t → (t || any (λ x. eqb x b) (part (r + 1) n s)) ≡ false
+        → (any (λ x. eqb x b) (part (r + 1) n s) ≡ false → (k : ℕ) → r + 1 ≤ k → k < r + 1 + n → getD s k 0 ≡ b → ⊥)
+        → ⊥
+    go true same f further = false≢true (sym f)
+    go false other f further =
+        elim (decLt r k) [
+          | yes z ↦ further f k (omega arith) (omega arith) e
+          | no z ↦ (let here : k ≡ r = omega arith in eqb-false (getD s r 0) b other (ap (λ j. getD s j 0) (sym here) ∙ e))
+        ]
+
+pub sought-part :
+    {s : List ℕ} {i b k : ℕ} (n r : ℕ) → Sought s i b k → r ≤ k → k ≤ r + n → r + n ≤ length s → any (λ x. eqb x b) (part r n s) ≡ false
+    → Sought s i b (r + n)
+sought-part {s} {i} {b} {k} n r q l m h absent =
+    let a = q .after in
+    record {
+      after = omega arith;
+      within = h;
+      passed = λ j u v e. elim (decLt j k) [ yes z ↦ q .passed j u z e | no z ↦ absent-part s b n r h absent j (omega arith) v e ];
+    }
 
 -- a pattern whose first symbol does not stand on the way is found from there on
 pub find-sought : (pattern s : List ℕ) {i first r : ℕ} → first ≡ getD pattern 0 0 → starts pattern (drop i s) ≡ false → i < length s → Sought s (i + 1) first r → find pattern (drop i s) ≡ find pattern (drop r s)

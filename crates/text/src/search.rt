@@ -3,8 +3,9 @@ use super::Found;
 ghost use mathlib.Core.Path.{_≡_};
 ghost use mathlib.Core.List.{_∷_};
 ghost use Prim.Native.Nat.{_≤_};
+ghost use lib.Dec.{eqb};
 ghost use lib.ListN.{length, getD};
-ghost use Rattle.spec.specs.Symbols.{starts, find as found, contains as occurs};
+ghost use Rattle.spec.specs.Symbols.{any, starts, find as found, contains as occurs};
 ghost use Rattle.text.specs.Search.{Finds, Sought};
 
 // Whether the text begins with the pattern.
@@ -22,12 +23,47 @@ pub fn starts_with(s: &[u8], pattern: &[u8]) -> bool
     true
 }
 
+// Whether the symbol is among these 8. All of them are looked at, which the compiler does at once.
+fn is_among(block: &[u8], b: u8) -> bool
+    requires { ⌜ length (now block) ≡ 8 ⌝ }
+    ensures { λ r. ⌜ r ≡ any (λ x. eqb x b) (now (block .entry)) ⌝ }
+{
+    let mut among = false;
+    for i in 0..8 {
+        among = among | (block[i] == b);
+    }
+    among
+}
+
+// Passes over 8 symbols at a time, from i on, as long as the symbol is not among them. The last 8 may overlap those before.
+fn pass(s: &[u8], i: usize, b: u8) -> usize
+    requires { ⌜ i ≤ length (now s) ⌝ }
+    ensures { λ r. ⌜ Sought (now (s .entry)) i b r ⌝ }
+{
+    let mut k = i;
+    while 8 <= s.len() - k {
+        let end = k + 8;
+        if is_among(&s[k..end], b) {
+            return k;
+        }
+        k = end;
+    }
+    if s.len() < 8 {
+        return k;
+    }
+    let last = s.len() - 8;
+    if is_among(&s[last..], b) {
+        return k;
+    }
+    s.len()
+}
+
 // The first place from i on where the symbol stands, or the end.
 fn seek(s: &[u8], i: usize, b: u8) -> usize
     requires { ⌜ i ≤ length (now s) ⌝ }
     ensures { λ r. ⌜ Sought (now (s .entry)) i b r ⌝ }
 {
-    let mut k = i;
+    let mut k = pass(s, i, b);
     while k < s.len() {
         if s[k] == b {
             return k;

@@ -2,7 +2,7 @@
 use Prim.Native.Nat.{_-_}
 use lib.ListN.{length}
 use native.Mathlib.Omega.{arith}
-use Rattle.text.specs.Search.{Sought, sought-none, sought-more}
+use Rattle.text.specs.Search.{Sought, sought-more}
 use Rattle.text.proofs.search.seek.Statement.{statement}
 use Rattle.text.proofs.search.seek.Tie as tie
 
@@ -12,8 +12,11 @@ Inv-loop s i b k₀ k = Sought s i b k
 abbrev μ-loop : tie.MeasureT-loop
 μ-loop s i b k₀ k = length s - k
 
+pass-requires : tie.Need-pass-requires Inv-loop μ-loop
+pass-requires c κs = c .before .pre
+
 loop-holds : tie.Need-loop-holds Inv-loop μ-loop
-loop-holds c = sought-none (c .pre)
+loop-holds c = c .pass .ensures
 
 shared-slice-read-if1 : tie.Need-shared-slice-read-if1 Inv-loop μ-loop
 shared-slice-read-if1 c = omega arith
@@ -39,6 +42,7 @@ seek-spec =
     (tie.spec
     Inv-loop
     μ-loop
+    pass-requires
     loop-holds
     shared-slice-read-if1
     returns
