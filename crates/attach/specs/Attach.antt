@@ -9,12 +9,12 @@ use Rattle.spec.specs.Symbols.{bytes, is, find, trim, dropWhileEnd}
 use Rattle.spec.specs.Closing.{findUnescapedComma}
 use Rattle.spec.specs.Calls.{bottom, bottomFrom, subscript}
 use Rattle.spec.specs.Laws.Symbols.{starts-long, find-starts}
-use Rattle.text.specs.Parts.{part, drop-take}
-use Rattle.text.specs.Search.{Finds, finds-at, finds-nothing, Closes, closes-at, closes-within, closes-nothing, inside-drop}
-use Rattle.text.specs.Trim.{Within, Narrowed, spanned}
-use Rattle.text.specs.declared.Span.{Span}
-use Rattle.text.specs.declared.Found.{Found}
-use Rattle.text.specs.declared.Found.the-variants.{At, Nothing}
+use Rattle.symbols.specs.Parts.{part, drop-take}
+use Rattle.search.specs.Search.{Finds, finds-at, finds-nothing, Closes, closes-at, closes-within, closes-nothing, inside-drop}
+use Rattle.symbols.specs.Trim.{Within, Narrowed, spanned}
+use Rattle.symbols.specs.declared.Span.{Span}
+use Rattle.search.specs.declared.Found.{Found}
+use Rattle.search.specs.declared.Found.the-variants.{At, Nothing}
 
 -- ---- what stands behind `b:`
 module _ {s : List ℕ} {p : Span} (within : Within s p) {q : Found} (comma : Closes (spanned p s) q (findUnescapedComma (spanned p s))) where

@@ -14,12 +14,12 @@ use Rattle.spec.specs.Calls.{callAt, subscript, latexUnderset, attached, attach
 use Rattle.spec.specs.Sweep.{replace}
 use Rattle.spec.specs.Laws.Symbols.{find-starts}
 use Rattle.attach.specs.Weight.{weight, weight-append, weight-long, weight-split, weight-from, replace-light, starts-take}
-use Rattle.text.specs.Parts.{part, length-part, drop-take}
-use Rattle.text.specs.Search.{Closes, closes-at, closes-within, closes-nothing, inside-drop, until-drop}
-use Rattle.text.specs.Trim.{Narrowed, spanned}
-use Rattle.text.specs.declared.Span.{Span}
-use Rattle.text.specs.declared.Found.{Found}
-use Rattle.text.specs.declared.Found.the-variants as Found
+use Rattle.symbols.specs.Parts.{part, length-part, drop-take}
+use Rattle.search.specs.Search.{Closes, closes-at, closes-within, closes-nothing, inside-drop, until-drop}
+use Rattle.symbols.specs.Trim.{Narrowed, spanned}
+use Rattle.symbols.specs.declared.Span.{Span}
+use Rattle.search.specs.declared.Found.{Found}
+use Rattle.search.specs.declared.Found.the-variants as Found
 use Rattle.delimiters.specs.First.{First, Firstly}
 use Rattle.delimiters.specs.declared.Site.the-variants as Site
 use Rattle.attach.specs.declared.Attachment.{Attachment}

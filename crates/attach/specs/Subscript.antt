@@ -7,7 +7,7 @@ use native.Mathlib.Omega.{arith}
 use lib.ListN.{length, getD, drop, length-take}
 use Rattle.spec.specs.Symbols.{bytes, starts}
 use Rattle.spec.specs.Sweep.{kept, taking, replace}
-use Rattle.text.specs.Parts.{part, length-part}
+use Rattle.symbols.specs.Parts.{part, length-part}
 use Rattle.text.specs.Writer.{Appended, Regions}
 use Rattle.text.specs.Sweep.{Sweeping, rest, rest-read, sweeping-more, sweeping-kept}
 use Rattle.attach.specs.Weight.{commas, weight-long, weight-short, replace-light}

@@ -18,12 +18,12 @@ use lib.Seq.{take-take}
 use borrow.Author.Tests.{lt-ltb, le-ltb}
 use Rattle.spec.specs.Result.{Result, passed, refused, _then_, mostSymbols, grown, stage}
 use Rattle.spec.specs.Calls.{latexUnderset, attachOnce, attachTimes, convertAttach}
-use Rattle.text.specs.Parts.{part, length-part, whole-part, sub-part, rest-part}
-use Rattle.text.specs.Trim.{spanned}
+use Rattle.symbols.specs.Parts.{part, length-part, whole-part, sub-part, rest-part}
+use Rattle.symbols.specs.Trim.{spanned}
 use Rattle.text.specs.Writer.{Regions, Appended, appended-long}
 use Rattle.text.specs.Written.{appended-text, appended-written, wrote-beyond}
 use Rattle.text.specs.Stage.{shown, Placed, judged, Ready, Answered, placed-text, placed-fits}
-use Rattle.text.specs.declared.Span.{Span}
+use Rattle.symbols.specs.declared.Span.{Span}
 use Rattle.text.specs.declared.Progress.{Progress}
 use Rattle.text.specs.declared.Progress.the-variants.{Text}
 use Rattle.attach.specs.Weight.{weight, weight-long, weight-short}

@@ -14,7 +14,7 @@ use borrow.Author.Tests.{eqb-true}
 use Rattle.spec.specs.Symbols.{bytes, is, starts}
 use Rattle.spec.specs.Sweep.{Rule, kept, taking, sweep, replacing, replace}
 use Rattle.spec.specs.Laws.Symbols.{starts-long}
-use Rattle.text.specs.Parts.{part}
+use Rattle.symbols.specs.Parts.{part}
 
 abbrev pub heavy : ℕ → ℕ
 heavy x = cond (is "a" x || (is "c" x || is "h" x)) 2 1

@@ -1,10 +1,10 @@
 // `attach(base, b: bottom)` becomes `\underset{bottom}{base}`: the first call, again and again, until it can't be rewritten. The text
 // goes to and fro between the halves of the work buffer.
 use delimiters::Site;
-use text::Class;
-use text::Found;
+use search::Found;
+use symbols::Class;
+use symbols::Span;
 use text::Progress;
-use text::Span;
 ghost use mathlib.Core.Path.{_≡_};
 ghost use mathlib.Core.List.{_++_};
 ghost use Prim.Native.Nat.{_+_, _*_, _≤_};
@@ -13,10 +13,10 @@ ghost use Rattle.spec.specs.Result.{stage};
 ghost use Rattle.spec.specs.Symbols.{bytes, find};
 ghost use Rattle.spec.specs.Calls.{bottomFrom, subscript, latexUnderset, convertAttach};
 ghost use Rattle.spec.specs.Sweep.{replace};
-ghost use Rattle.text.specs.Parts.{part};
+ghost use Rattle.symbols.specs.Parts.{part};
 ghost use Rattle.text.specs.Writer.{Appended, Regions};
 ghost use Rattle.text.specs.Stage.{Ready, Answered};
-ghost use Rattle.text.specs.Trim.{Within, Narrowed, spanned};
+ghost use Rattle.symbols.specs.Trim.{Within, Narrowed, spanned};
 ghost use Rattle.attach.specs.Once.{Attached, Arguments};
 ghost use Rattle.attach.specs.Turns.{Halved, Beyond, other, undersetAt, Turned, Rewritten, Settled};
 
@@ -34,10 +34,10 @@ fn bottom_of(s: &[u8], span: Span) -> Span
 {
     let start = span.start;
     let end = span.end;
-    let Found::At(j) = closing::find_unescaped_comma(&s[start..end]) else {
-        return text::skip_end(s, span, Class::Only(b')'));
+    let Found::At(j) = commas::find_unescaped_comma(&s[start..end]) else {
+        return symbols::skip_end(s, span, Class::Only(b')'));
     };
-    text::trim(
+    symbols::trim(
         s,
         Span {
             start,
@@ -54,10 +54,10 @@ fn subscript_of(s: &[u8], span: Span) -> Span
 {
     let start = span.start;
     let end = span.end;
-    let Found::At(i) = text::find(&s[start..end], b"b:") else {
+    let Found::At(i) = search::find(&s[start..end], b"b:") else {
         return Span { start: end, end };
     };
-    let after = text::trim(
+    let after = symbols::trim(
         s,
         Span {
             start: start + i + 2,
@@ -84,11 +84,11 @@ pub fn attach_at(s: &[u8]) -> Attachment
     };
     let start = i + OPEN;
     let end = start + k;
-    let Found::At(j) = closing::find_unescaped_comma(&s[start..end]) else {
+    let Found::At(j) = commas::find_unescaped_comma(&s[start..end]) else {
         return Attachment::Nothing;
     };
     let comma = start + j;
-    let base = text::trim(s, Span { start, end: comma }, Class::Blank);
+    let base = symbols::trim(s, Span { start, end: comma }, Class::Blank);
     let below = subscript_of(
         s,
         Span {
@@ -112,7 +112,7 @@ fn put_subscript(work: &mut [u8], to: usize, count: usize, from: usize, n: usize
     let mut i = 0;
     while i < n {
         let at = from + i;
-        if text::starts_with(&work[at..end], b"\\,") {
+        if search::starts_with(&work[at..end], b"\\,") {
             written = text::put_all(work, to, HALF, written, b"\\;");
             i += 2;
             continue;

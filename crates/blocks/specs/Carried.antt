@@ -14,7 +14,7 @@ use lib.ListN.{length, length-append}
 use Rattle.spec.specs.Symbols.{textMark, romanMark}
 use Rattle.spec.specs.Held.{Held, withText, inFull, filled, heldStage, putBack}
 use Rattle.spec.specs.Result.{Result, passed, refused, _then_, mostSymbols}
-use Rattle.text.specs.Parts.{part, length-part}
+use Rattle.symbols.specs.Parts.{part, length-part}
 use Rattle.text.specs.Writer.{Appended, Apart, appended-long}
 use Rattle.text.specs.Written.{appended-text}
 use Rattle.text.specs.Stage.{Ready, Placed, Answered, shown, placed-text, placed-fits, placed-regions}

@@ -12,7 +12,7 @@ use native.Mathlib.Omega.{arith}
 use lib.ListN.{length, length-append}
 use Rattle.spec.specs.Symbols.{bytes, contains, textMark, romanMark}
 use Rattle.spec.specs.Held.{Held, holdTexts, holdBoth, inFull, filled}
-use Rattle.text.specs.Parts.{part, length-part, whole-part}
+use Rattle.symbols.specs.Parts.{part, length-part, whole-part}
 use Rattle.text.specs.Writer.{appended-long}
 use Rattle.text.specs.Stage.{Ready, Placed, placed-text, placed-fits, placed-regions}
 use Rattle.text.specs.declared.Progress.{Progress}

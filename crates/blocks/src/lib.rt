@@ -2,7 +2,7 @@
 use text::Progress;
 use text::Refusal;
 ghost use Rattle.spec.specs.Held.{Held, withText, holdTexts, holdBoth, putBack};
-ghost use Rattle.text.specs.Parts.{part};
+ghost use Rattle.symbols.specs.Parts.{part};
 ghost use Rattle.text.specs.Stage.{Answered};
 ghost use Rattle.blocks.specs.Outside.{Holdable, HeldFrom};
 ghost use Rattle.blocks.specs.Carried.{Carries, Carried};
@@ -23,7 +23,7 @@ pub fn hold_texts(work: &mut [u8], from: usize, n: usize) -> Outside
     ensures { λ r. ⌜ HeldFrom (now (work .entry)) (now (work .exit)) r (holdTexts (part from n (now (work .entry)))) ⌝ }
 {
     let end = from + n;
-    if !text::contains(&work[from..end], b"\\text{") {
+    if !search::contains(&work[from..end], b"\\text{") {
         return Outside {
             at: from,
             len: n,
@@ -53,7 +53,7 @@ pub fn hold_both(work: &mut [u8], from: usize, n: usize) -> Outside
     let len = first.len;
     let texts = first.texts;
     let end = at + len;
-    if !text::contains(&work[at..end], b"\\mathrm{") {
+    if !search::contains(&work[at..end], b"\\mathrm{") {
         return first;
     }
     let to = text::CAP - at;
@@ -87,7 +87,7 @@ pub fn put_all_back(work: &mut [u8], text: Progress, texts: usize, used: usize) 
     if used == 0 {
         return text;
     }
-    if held::lost(work, from, n, texts, used) {
+    if lost_blocks::lost(work, from, n, texts, used) {
         return Progress::Refused(Refusal::LostBlock);
     }
     let to = text::CAP - from;

@@ -1,8 +1,5 @@
-// The call rewritings, `op` to the second `upright`, in the Rust's order. Each is a stage: it takes the text where it stands in the
-// work buffer and gives it back rewritten, in the other region, or as it was where it has nothing to rewrite.
-mod binom;
-
-pub use binom::convert_binom;
+// The call rewritings with one argument, `op` to the second `upright`, in the Rust's order. Each is a stage: it takes the text where it
+// stands in the work buffer and gives it back rewritten, in the other region, or as it was where it has nothing to rewrite.
 use delimiters::convert_calls;
 use text::Progress;
 ghost use Rattle.spec.specs.Result.{stage};

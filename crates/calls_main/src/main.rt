@@ -1,7 +1,7 @@
 // Runs each stage from `op` to the quotes, and each closing search, by itself on lines of standard input, and writes what becomes
 // of each line. A line that begins with `#` is a heading: it begins the next section. Sections 1 to 9 are the stages in the Rust's
 // order, and those from 10 on the searches.
-use text::Found;
+use search::Found;
 use text::Progress;
 ghost use Prim.Native.Nat.{_≤_};
 ghost use lib.ListN.{length};
@@ -17,7 +17,7 @@ fn convert(work: &mut [u8], section: usize, text: Progress) -> Progress
         3 => attach::convert_attach(work, text),
         4 => calls::convert_bb(work, text),
         5 => calls::convert_bold(work, text),
-        6 => calls::convert_binom(work, text),
+        6 => binom::convert_binom(work, text),
         7 => calls::convert_upright(work, text),
         8 => calls::convert_floor_ceil_abs(work, text),
         _ => quotes::convert_text_quotes(work, text),
@@ -31,9 +31,9 @@ fn search(section: usize, s: &[u8]) -> Found
         10 => closing::find_matching_paren(s),
         11 => closing::find_matching_brace(s),
         12 => closing::matching_delimiter(s, b'(', b')'),
-        13 => closing::find_comma_in_args(s),
-        14 => closing::find_unescaped_comma(s),
-        _ => Found::At(closing::split_top_level_commas(s, 0)),
+        13 => commas::find_comma_in_args(s),
+        14 => commas::find_unescaped_comma(s),
+        _ => Found::At(commas::split_top_level_commas(s, 0)),
     }
 }
 
@@ -87,7 +87,7 @@ fn answer(section: usize, s: &[u8]) {
 fn line(s: &[u8]) -> usize
     ensures { λ r. ⌜ r ≤ length (now (s .entry)) ⌝ }
 {
-    match text::find(s, b"\n") {
+    match search::find(s, b"\n") {
         Found::At(k) => k,
         Found::Nothing => s.len(),
     }

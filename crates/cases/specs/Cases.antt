@@ -16,12 +16,12 @@ use borrow.Author.Tests.{lt-ltb, le-ltb}
 use Rattle.spec.specs.Symbols.{bytes, trim, find}
 use Rattle.spec.specs.Closing.{splitTopLevelCommas}
 use Rattle.spec.specs.Calls.{nonblank, joined, callAt, casesFrom, casesAt, latexCases, convertCases}
-use Rattle.text.specs.Parts.{part, whole-part, sub-part, rest-part, length-part}
-use Rattle.text.specs.Trim.{Narrowed}
-use Rattle.text.specs.Search.{until-drop}
+use Rattle.symbols.specs.Parts.{part, whole-part, sub-part, rest-part, length-part}
+use Rattle.symbols.specs.Trim.{Narrowed}
+use Rattle.search.specs.Search.{until-drop}
 use Rattle.text.specs.Writer.{Regions, Appended, appended-none, appended-more, appended-part}
-use Rattle.text.specs.declared.Span.{Span}
-use Rattle.closing.specs.Split.{Splits, partsBehind}
+use Rattle.symbols.specs.declared.Span.{Span}
+use Rattle.commas.specs.Split.{Splits, partsBehind}
 use Rattle.delimiters.specs.First.{First, Firstly}
 use Rattle.delimiters.specs.declared.Site.the-variants.{Nothing}
 use Rattle.cases.specs.declared.Branch.{Branch}

@@ -1,15 +1,15 @@
 // `cases(..)` becomes LaTeX's environment of that name: its first occurrence only, and only if that one is closed. Its branches are
 // parted by commas at the top level; blank ones are dropped.
 use delimiters::Site;
-use text::Class;
+use symbols::Class;
+use symbols::Span;
 use text::Progress;
-use text::Span;
 ghost use Prim.Native.Nat.{_+_, _-_, _*_, _≤_};
 ghost use mathlib.Core.List.{_++_};
 ghost use lib.ListN.{length};
 ghost use Rattle.spec.specs.Result.{stage};
 ghost use Rattle.spec.specs.Calls.{latexCases, convertCases};
-ghost use Rattle.text.specs.Parts.{part};
+ghost use Rattle.symbols.specs.Parts.{part};
 ghost use Rattle.text.specs.Writer.{Room, Appended, Apart, Regions};
 ghost use Rattle.text.specs.Stage.{Ready, Staged};
 ghost use Rattle.cases.specs.Cases.{Branched, separator, branches};
@@ -26,8 +26,8 @@ fn branch_at(s: &[u8], start: usize) -> Branch
     requires { ⌜ (start ≤ length (now s)) × (length (now s) ≤ 8192) ⌝ }
     ensures { λ r. ⌜ Branched (now (s .entry)) start r ⌝ }
 {
-    let comma = closing::split_top_level_commas(s, start);
-    let span = text::trim(s, Span { start, end: comma }, Class::Blank);
+    let comma = commas::split_top_level_commas(s, start);
+    let span = symbols::trim(s, Span { start, end: comma }, Class::Blank);
     Branch {
         start: span.start,
         end: span.end,

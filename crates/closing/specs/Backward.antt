@@ -10,9 +10,9 @@ use native.Mathlib.Omega.{arith}
 use lib.ListN.{length, getD, take, length-take, length-reverse}
 use lib.Seq.{take-suc, take-length}
 use Rattle.spec.specs.Symbols.{head}
-use Rattle.text.specs.Search.{reach}
-use Rattle.text.specs.declared.Found.{Found}
-use Rattle.text.specs.declared.Found.the-variants.{At, Nothing}
+use Rattle.search.specs.Search.{reach}
+use Rattle.search.specs.declared.Found.{Found}
+use Rattle.search.specs.declared.Found.the-variants.{At, Nothing}
 
 abbrev pub before : List ℕ → ℕ → List ℕ
 before s i = reverse (take i s)

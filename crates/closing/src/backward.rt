@@ -1,6 +1,6 @@
 // The closing search from the end of a text to its start.
 use super::Tally;
-use text::Found;
+use search::Found;
 ghost use mathlib.Core.List.{reverse};
 ghost use Prim.Native.Nat.{_≤_};
 ghost use lib.ListN.{length};

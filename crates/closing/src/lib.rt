@@ -1,20 +1,15 @@
-// Closing searches and comma searches: where an opened bracket is closed, and where the arguments of a call part.
+// Closing searches: where an opened bracket is closed.
 mod backward;
-mod commas;
 mod level;
 
 pub use backward::find_closer_back;
-pub use commas::Balance;
-pub use commas::find_comma_in_args;
-pub use commas::find_unescaped_comma;
-pub use commas::split_top_level_commas;
 pub use level::is_level;
-use text::Found;
+use search::Found;
 ghost use mathlib.Core.Path.{_≡_};
 ghost use Prim.Native.Nat.{_≤_, _<_};
 ghost use lib.ListN.{length};
 ghost use Rattle.spec.specs.Closing.{close, findMatchingParen, findMatchingBrace, matchingDelimiter};
-ghost use Rattle.text.specs.Search.{Closes};
+ghost use Rattle.search.specs.Search.{Closes};
 ghost use Rattle.closing.specs.Closing.{started, stepped};
 
 // How deep the brackets of one kind are open.

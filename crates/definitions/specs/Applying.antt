@@ -18,7 +18,7 @@ use Rattle.spec.specs.Held.{Held, withText, heldStage, holdTexts, putBack}
 use Rattle.spec.specs.Table.{Definition, faultyName, definitions, byLength}
 use Rattle.spec.specs.Definitions.{defined, applyDefinition, applyDefinitions, applyDefinitionsOutsideText}
 use Rattle.spec.specs.Laws.Table.{rearranged-by-length}
-use Rattle.text.specs.Parts.{length-part}
+use Rattle.symbols.specs.Parts.{length-part}
 use Rattle.text.specs.Stage.{Ready, shown}
 use Rattle.text.specs.declared.Progress.{Progress}
 use Rattle.held.specs.WellMade.{WellMade}
@@ -30,7 +30,7 @@ use Rattle.table.specs.declared.Record.{Record}
 use Rattle.table.specs.declared.order.Cursor.{Cursor}
 use Rattle.table.specs.Reading.{Lies, Short, definitionAt, length-name}
 use Rattle.table.specs.Order.{remaining, Begins}
-use Rattle.table.specs.Faults.{definitions-some}
+use Rattle.table.specs.Sound.{definitions-some}
 use Rattle.blocks.specs.Outside.{Extra}
 use Rattle.blocks.specs.Carried.{held-sized}
 

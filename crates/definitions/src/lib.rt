@@ -13,7 +13,7 @@ ghost use Rattle.spec.specs.Definitions.{applyDefinitionsOutsideText};
 ghost use Rattle.text.specs.Stage.{Ready, Answered};
 ghost use Rattle.entries.specs.Sized.{Within, StagedWithin};
 ghost use Rattle.table.specs.Reading.{definitionAt};
-ghost use Rattle.table.specs.Faults.{refused};
+ghost use Rattle.table.specs.Sound.{refused};
 ghost use Rattle.blocks.specs.Outside.{Unmarked};
 ghost use Rattle.definitions.specs.Applying.{Usable, sizedDefinition, sizedDefinitions};
 

@@ -15,14 +15,14 @@ use Rattle.spec.specs.Sweep.{Rule}
 use Rattle.spec.specs.Closing.{findMatchingParen}
 use Rattle.spec.specs.Calls.{closed, callAt, rewritten, calling}
 use Rattle.spec.specs.Laws.Sweep.{Waits}
-use Rattle.text.specs.Parts.{part, length-part}
-use Rattle.text.specs.Search.{Closes, inside-drop}
+use Rattle.symbols.specs.Parts.{part, length-part}
+use Rattle.search.specs.Search.{Closes, inside-drop}
 use Rattle.text.specs.Writer.{Regions, Appended}
 use Rattle.text.specs.Sweep.{Sweeping, rest, source-read, rest-read, symbols-read, sweeping-more, sweeping-kept}
-use Rattle.text.specs.Trim.{Narrowed, spanned}
-use Rattle.text.specs.declared.Span.{Span}
-use Rattle.text.specs.declared.Found.{Found}
-use Rattle.text.specs.declared.Found.the-variants.{At, Nothing}
+use Rattle.symbols.specs.Trim.{Narrowed, spanned}
+use Rattle.symbols.specs.declared.Span.{Span}
+use Rattle.search.specs.declared.Found.{Found}
+use Rattle.search.specs.declared.Found.the-variants.{At, Nothing}
 
 abbrev pub argument : Bool → List ℕ → List ℕ
 argument trims inner = cond trims (trimQuotes (trim inner)) inner

@@ -10,10 +10,10 @@ use lib.ListN.{length, take, drop, length-drop}
 use lib.Seq.{drop-drop}
 use Rattle.spec.specs.Symbols.{find}
 use Rattle.spec.specs.Calls.{callAt}
-use Rattle.text.specs.Parts.{part, rest-of}
-use Rattle.text.specs.Search.{Finds, finds-at, finds-within, finds-nothing}
-use Rattle.text.specs.declared.Found.{Found}
-use Rattle.text.specs.declared.Found.the-variants as Found
+use Rattle.symbols.specs.Parts.{part, rest-of}
+use Rattle.search.specs.Search.{Finds, finds-at, finds-within, finds-nothing}
+use Rattle.search.specs.declared.Found.{Found}
+use Rattle.search.specs.declared.Found.the-variants as Found
 use Rattle.delimiters.specs.Delimiters.{Called, innerAt, spent}
 use Rattle.delimiters.specs.declared.Site.{Site}
 use Rattle.delimiters.specs.declared.Site.the-variants.{At, Nothing}

@@ -3,17 +3,17 @@
 mod first;
 
 pub use first::first_call;
-use text::Class;
-use text::Found;
+use search::Found;
+use symbols::Class;
+use symbols::Span;
 use text::Progress;
-use text::Span;
 ghost use Prim.Native.Nat.{_+_, _-_, _≤_};
 ghost use mathlib.Core.List.{_++_};
 ghost use lib.ListN.{length};
 ghost use Rattle.spec.specs.Result.{stage};
 ghost use Rattle.spec.specs.Calls.{convertCalls};
-ghost use Rattle.text.specs.Parts.{part};
-ghost use Rattle.text.specs.Trim.{Within, Narrowed, spanned};
+ghost use Rattle.symbols.specs.Parts.{part};
+ghost use Rattle.symbols.specs.Trim.{Within, Narrowed, spanned};
 ghost use Rattle.text.specs.Writer.{Room, Appended, Apart, Regions};
 ghost use Rattle.text.specs.Stage.{Ready, Staged};
 ghost use Rattle.delimiters.specs.Delimiters.{Called, Fair, argument, delimited};
@@ -29,7 +29,7 @@ pub fn call_at(s: &[u8], name: &[u8]) -> Found
     requires { ⌜ length (now s) ≤ 16384 ⌝ }
     ensures { λ r. ⌜ Called (now (name .entry)) (now (s .entry)) r ⌝ }
 {
-    if text::starts_with(s, name) {
+    if search::starts_with(s, name) {
         let open = name.len();
         return closing::find_matching_paren(&s[open..]);
     }
@@ -42,7 +42,7 @@ fn argument_of(s: &[u8], span: Span, trims: bool) -> Span
     ensures { λ r. ⌜ Narrowed (now (s .entry)) span r (argument trims (spanned span (now (s .entry)))) ⌝ }
 {
     if trims {
-        return text::trim(s, text::trim(s, span, Class::Blank), Class::Only(b'"'));
+        return symbols::trim(s, symbols::trim(s, span, Class::Blank), Class::Only(b'"'));
     }
     span
 }
@@ -127,7 +127,7 @@ pub fn convert_calls(
         return text;
     };
     let end = from + n;
-    let Found::At(_) = text::find(&work[from..end], name) else {
+    let Found::At(_) = search::find(&work[from..end], name) else {
         return text;
     };
     let to = text::CAP - from;

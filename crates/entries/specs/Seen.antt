@@ -17,8 +17,8 @@ use Rattle.spec.specs.Symbols.{any, starts, find, contains}
 use Rattle.spec.specs.Sweep.{Rule, sweep}
 use Rattle.spec.specs.Laws.Symbols.{any-more, any-end, find-past}
 use Rattle.spec.specs.Laws.Sweep.{Waits}
-use Rattle.text.specs.Parts.{part, whole-part}
-use Rattle.text.specs.Search.{isSome, contains-find}
+use Rattle.symbols.specs.Parts.{part, whole-part}
+use Rattle.search.specs.Search.{isSome, contains-find}
 use Rattle.text.specs.Stage.{Ready}
 use Rattle.text.specs.declared.Refusal.{Refusal}
 use Rattle.text.specs.declared.Progress.{Progress}

@@ -19,12 +19,12 @@ use Rattle.spec.specs.Symbols.{find}
 use Rattle.spec.specs.Sweep.{Rule, sweep}
 use Rattle.spec.specs.Laws.Sweep.{Waits, sweep-absent}
 use Rattle.spec.specs.Result.{Result, passed, refused, _then_, mostSymbols, stage}
-use Rattle.text.specs.Parts.{part, length-part, whole-part}
-use Rattle.text.specs.Search.{Finds, finds-at, finds-nothing}
+use Rattle.symbols.specs.Parts.{part, length-part, whole-part}
+use Rattle.search.specs.Search.{Finds, finds-at, finds-nothing}
 use Rattle.text.specs.Written.{Written, wrote-text, wrote-beyond}
 use Rattle.text.specs.Stage.{Placed, Ready, Answered, Staged, shown, placed-text, placed-fits, placed-regions}
-use Rattle.text.specs.declared.Found.{Found}
-use Rattle.text.specs.declared.Found.the-variants.{At, Nothing}
+use Rattle.search.specs.declared.Found.{Found}
+use Rattle.search.specs.declared.Found.the-variants.{At, Nothing}
 use Rattle.text.specs.declared.Refusal.{Refusal}
 use Rattle.text.specs.declared.Refusal.the-variants.{Overgrown}
 use Rattle.text.specs.declared.Progress.{Progress}

@@ -9,7 +9,7 @@ use Rattle.spec.specs.Sweep.{kept, taking}
 use Rattle.spec.specs.Symbols.{starts}
 use Rattle.spec.specs.Laws.Symbols.{starts-long}
 use Rattle.spec.specs.Laws.Booleans.{and-left}
-use Rattle.text.specs.Parts.{part, length-part}
+use Rattle.symbols.specs.Parts.{part, length-part}
 use Rattle.text.specs.Writer.{Regions, Appended}
 use Rattle.text.specs.Sweep.{Sweeping, source-read, sweeping-more, sweeping-kept}
 use Rattle.entries.specs.declared.bounds.Bounds.{Bounds}

@@ -22,9 +22,9 @@ pub fn is_allowed(bounds: Bounds, before: u8, behind: u8) -> bool
     match bounds {
         Bounds::Literal => true,
         Bounds::Greek => true,
-        Bounds::Word => !text::is_word(before),
-        Bounds::Capital => !text::is_word(before) & !text::is_word(behind),
-        Bounds::Defined => !text::is_word(before) & !text::is_letter(behind),
+        Bounds::Word => !symbols::is_word(before),
+        Bounds::Capital => !symbols::is_word(before) & !symbols::is_word(behind),
+        Bounds::Defined => !symbols::is_word(before) & !symbols::is_letter(behind),
     }
 }
 
@@ -34,8 +34,9 @@ pub fn is_left(bounds: Bounds, before: u8, behind: u8) -> bool
 {
     match bounds {
         Bounds::Literal => false,
-        Bounds::Greek => (before == b'\\') | (text::is_letter(before) | text::is_letter(behind)),
-        Bounds::Word => (before == b'\\') | text::is_alnum(behind),
+        Bounds::Greek => (before == b'\\')
+            | (symbols::is_letter(before) | symbols::is_letter(behind)),
+        Bounds::Word => (before == b'\\') | symbols::is_alnum(behind),
         Bounds::Capital => before == b'\\',
         Bounds::Defined => false,
     }

@@ -8,7 +8,7 @@ mod presence;
 pub use bounds::Bounds;
 pub use presence::is_nowhere;
 pub use presence::seen;
-use text::Found;
+use search::Found;
 use text::Progress;
 use text::Refusal;
 ghost use mathlib.Core.Path.{_≡_};
@@ -17,7 +17,7 @@ ghost use mathlib.Core.List.{_∷_};
 ghost use Prim.Native.Nat.{_≤_};
 ghost use lib.ListN.{length, getD, drop};
 ghost use Rattle.spec.specs.Sweep.{sweep};
-ghost use Rattle.text.specs.Parts.{part};
+ghost use Rattle.symbols.specs.Parts.{part};
 ghost use Rattle.text.specs.Writer.{Room, Appended, Regions};
 ghost use Rattle.text.specs.Stage.{Ready};
 ghost use Rattle.entries.specs.Bounded.{Fair, stands as standing, spares, bounded};
@@ -28,11 +28,11 @@ fn stands(s: &[u8], i: usize, bounds: Bounds, pattern: &[u8]) -> bool
     requires { ⌜ (i ≤ length (now s)) × (length (now s) ≤ 16384) ⌝ }
     ensures { λ r. ⌜ r ≡ standing bounds (now (pattern .entry)) (getD (0 ∷ now (s .entry)) i 0) (drop i (now (s .entry))) ⌝ }
 {
-    if !text::starts_with(&s[i..], pattern) {
+    if !search::starts_with(&s[i..], pattern) {
         return false;
     }
-    let behind = text::symbol(s, i + pattern.len());
-    bounds::is_allowed(bounds, text::before(s, i), behind)
+    let behind = search::symbol(s, i + pattern.len());
+    bounds::is_allowed(bounds, search::before(s, i), behind)
 }
 
 // Whether a pattern that stands at place i is to be spared.
@@ -40,8 +40,8 @@ fn is_spared(s: &[u8], i: usize, bounds: Bounds, pattern: &[u8]) -> bool
     requires { ⌜ (i ≤ length (now s)) × ((length (now s) ≤ 16384) × (length (now pattern) ≤ 1024)) ⌝ }
     ensures { λ r. ⌜ r ≡ spares bounds (now (pattern .entry)) (getD (0 ∷ now (s .entry)) i 0) (drop i (now (s .entry))) ⌝ }
 {
-    let behind = text::symbol(s, i + pattern.len());
-    bounds::is_left(bounds, text::before(s, i), behind)
+    let behind = search::symbol(s, i + pattern.len());
+    bounds::is_left(bounds, search::before(s, i), behind)
 }
 
 // Appends the pattern where it is spared, and else what is written for it.
@@ -123,7 +123,7 @@ pub fn apply(
         return text;
     };
     let end = from + n;
-    let Found::At(_) = text::find(&work[from..end], pattern) else {
+    let Found::At(_) = search::find(&work[from..end], pattern) else {
         return text;
     };
     let to = text::CAP - from;

@@ -54,5 +54,5 @@ pub fn is_nowhere(work: &[u8], text: Progress, seen: &[u8; 256], pattern: &[u8])
         return true;
     }
     let end = from + n;
-    !text::contains(&work[from..end], pattern)
+    !search::contains(&work[from..end], pattern)
 }

@@ -14,12 +14,12 @@ use borrow.Author.Tests.{ne-eqb}
 use Rattle.spec.specs.Symbols.{bytes, is, head, find, starts}
 use Rattle.spec.specs.Finish.{groupsBehind, top, popped, brace, escapeBraces, escapeSetBraces}
 use Rattle.spec.specs.Laws.Symbols.{drop-step}
-use Rattle.text.specs.Parts.{part, length-part, whole-part}
-use Rattle.text.specs.Search.{Finds, finds-nothing}
+use Rattle.symbols.specs.Parts.{part, length-part, whole-part}
+use Rattle.search.specs.Search.{Finds, finds-nothing}
 use Rattle.text.specs.Writer.{Regions, Appended}
 use Rattle.text.specs.Filling.{Filling, filling-more, filling-source, filling-symbol, passed-by, passed-more, passed-head}
-use Rattle.text.specs.declared.Found.{Found}
-use Rattle.text.specs.declared.Found.the-variants.{Nothing}
+use Rattle.search.specs.declared.Found.{Found}
+use Rattle.search.specs.declared.Found.the-variants.{Nothing}
 
 unfoldable pub stackOf : List ℕ → List Bool
 stackOf [] = []

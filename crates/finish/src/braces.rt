@@ -1,13 +1,13 @@
 // Braces that are set notation become `\{` and `\}`. A brace groups behind a script sign, another brace, a letter, a digit or a
 // backslash. Its closer goes with it: instead of the Rust's stack, the opener is looked for backwards.
-use text::Found;
+use search::Found;
 use text::Progress;
 ghost use Prim.Native.Nat.{_+_, _≤_, _<_};
 ghost use mathlib.Core.Path.{_≡_};
 ghost use lib.ListN.{length};
 ghost use Rattle.spec.specs.Result.{stage};
 ghost use Rattle.spec.specs.Finish.{groupsBehind, brace, escapeSetBraces};
-ghost use Rattle.text.specs.Parts.{part};
+ghost use Rattle.symbols.specs.Parts.{part};
 ghost use Rattle.text.specs.Filling.{passed-by};
 ghost use Rattle.text.specs.Writer.{Room, Appended, Regions};
 ghost use Rattle.text.specs.Stage.{Ready, Staged};
@@ -20,7 +20,7 @@ fn is_grouping(before: u8) -> bool
     (before == b'_')
         | ((before == b'^')
             | ((before == b'{')
-                | ((before == b'}') | (text::is_alnum(before) | (before == b'\\')))))
+                | ((before == b'}') | (symbols::is_alnum(before) | (before == b'\\')))))
 }
 
 // Whether the last brace that is open before place `end` groups. With none open, its closer stays bare.
@@ -42,7 +42,7 @@ fn open_groups(s: &[u8], end: usize) -> bool
             continue;
         }
         if depth == 0 {
-            return is_grouping(text::before(s, at));
+            return is_grouping(search::before(s, at));
         }
         depth -= 1;
     }
@@ -56,7 +56,7 @@ fn is_bare(s: &[u8], i: usize) -> bool
 {
     let b = s[i];
     if b == b'{' {
-        return is_grouping(text::before(s, i));
+        return is_grouping(search::before(s, i));
     }
     if b == b'}' {
         return open_groups(s, i);
@@ -102,7 +102,7 @@ pub fn escape_set_braces(work: &mut [u8], text: Progress) -> Progress
         return text;
     };
     let end = from + n;
-    let Found::At(_) = text::find(&work[from..end], b"{") else {
+    let Found::At(_) = search::find(&work[from..end], b"{") else {
         return text;
     };
     let to = text::CAP - from;

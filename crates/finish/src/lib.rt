@@ -1,10 +1,8 @@
-// The end of the conversion of syntax: the solidus mark, set braces, `lr` and the percent sign. Each is a stage. The marking of the
-// solidus, with which a conversion begins, stands here beside its end.
+// The end of the conversion of syntax but for delimiters: the solidus mark, set braces and the percent sign. Each is a stage. The
+// marking of the solidus, with which a conversion begins, stands here beside its end.
 mod braces;
-mod lr;
 
 pub use braces::escape_set_braces;
-pub use lr::convert_lr;
 use text::Progress;
 ghost use Rattle.spec.specs.Result.{stage};
 ghost use Rattle.spec.specs.Pipeline.{markSolidus, unmarkSolidus};

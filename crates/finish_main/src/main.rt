@@ -20,7 +20,7 @@ fn delimit(work: &mut [u8], text: Progress) -> Progress
 {
     let unmarked = finish::unmark_solidus(work, text);
     let braced = finish::escape_set_braces(work, unmarked);
-    let paired = finish::convert_lr(work, braced);
+    let paired = lr::convert_lr(work, braced);
     sizing::size_delimiters_to_content(work, paired)
 }
 

@@ -1,6 +1,6 @@
 // Runs the fraction stage on each line of standard input, and writes the text that it leaves, or `refused` and the number.
+use search::Found;
 use text::CAP;
-use text::Found;
 use text::Progress;
 ghost use Prim.Native.Nat.{_≤_};
 ghost use lib.ListN.{length};
@@ -38,7 +38,7 @@ fn convert(s: &[u8]) {
 fn line(s: &[u8]) -> usize
     ensures { λ r. ⌜ r ≤ length (now (s .entry)) ⌝ }
 {
-    match text::find(s, b"\n") {
+    match search::find(s, b"\n") {
         Found::At(k) => k,
         Found::Nothing => s.len(),
     }

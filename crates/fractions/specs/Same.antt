@@ -10,7 +10,7 @@ use borrow.Author.Tests.{eq-eqb, ne-eqb}
 use lib.ListN.{length, getD, drop, drop-of-length-le}
 use Rattle.spec.specs.Symbols.{same}
 use Rattle.spec.specs.Laws.Symbols.{drop-step}
-use Rattle.text.specs.Parts.{part}
+use Rattle.symbols.specs.Parts.{part}
 
 -- two texts, of n and of `count` symbols
 abbrev pub sameAt : List ℕ → ℕ → ℕ → ℕ → ℕ → Bool

@@ -15,7 +15,7 @@ use lib.ListN.{length, drop}
 use Rattle.spec.specs.Symbols.{bytes, same, find}
 use Rattle.spec.specs.Result.{Result, passed, refused, mostSymbols}
 use Rattle.spec.specs.Fractions.{fractionsFrom, convertRegularFractions, settle, convertFractions}
-use Rattle.text.specs.Parts.{part, length-part}
+use Rattle.symbols.specs.Parts.{part, length-part}
 use Rattle.text.specs.Written.{Wrote, wrote-less, wrote-text, wrote-apart, wrote-beyond}
 use Rattle.text.specs.Stage.{shown, Placed, Ready, Staged, placed-text, placed-regions}
 use Rattle.text.specs.declared.Refusal.the-variants.{Overgrown, Unsettled, BarredSolidus}

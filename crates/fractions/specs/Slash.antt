@@ -25,10 +25,10 @@ use Rattle.spec.specs.Fractions.{
   withNumerator,
   slash,
 }
-use Rattle.text.specs.Parts.{part, drop-take}
-use Rattle.text.specs.Trim.{spanned}
+use Rattle.symbols.specs.Parts.{part, drop-take}
+use Rattle.symbols.specs.Trim.{spanned}
 use Rattle.closing.specs.Backward.{before, length-before}
-use Rattle.operands.specs.Ends.{take-drop}
+use Rattle.denominators.specs.Ends.{take-drop}
 use Rattle.operands.specs.Places.{Ahead, Behind, until-ahead}
 use Rattle.fractions.specs.declared.Operands.{Operands}
 use Rattle.fractions.specs.declared.Slash.{Slash}

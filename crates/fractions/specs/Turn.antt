@@ -15,11 +15,11 @@ use lib.ListN.{length, getD, take, drop, length-drop, length-reverse, drop-of-le
 use lib.Seq.{drop-at}
 use Rattle.spec.specs.Fractions.{Step, slash, fractionsFrom, convertRegularFractions}
 use Rattle.spec.specs.Laws.Symbols.{drop-step}
-use Rattle.text.specs.Parts.{part, whole-part}
+use Rattle.symbols.specs.Parts.{part, whole-part}
 use Rattle.text.specs.Writer.{Appended, Regions}
 use Rattle.text.specs.Written.{Wrote, Writing, writing-none, writing-more, writing-less, wrote-less, wrote-apart, wrote-read}
 use Rattle.closing.specs.Backward.{before, before-next}
-use Rattle.operands.specs.Ends.{take-drop}
+use Rattle.denominators.specs.Ends.{take-drop}
 use Rattle.operands.specs.Places.{drop-none}
 use Rattle.fractions.specs.declared.Operands.{Operands}
 use Rattle.fractions.specs.declared.Slash.{Slash}

@@ -7,10 +7,10 @@ use native.Mathlib.Omega.{arith}
 use lib.ListN.{length, drop, length-take, length-append}
 use Rattle.spec.specs.Symbols.{bytes}
 use Rattle.spec.specs.Fractions.{frac, stripOuterParens}
-use Rattle.text.specs.Parts.{part, sub-part}
-use Rattle.text.specs.Trim.{Narrowed, spanned}
+use Rattle.symbols.specs.Parts.{part, sub-part}
+use Rattle.symbols.specs.Trim.{Narrowed, spanned}
 use Rattle.text.specs.Writer.{Room, Appended, Apart, Regions, apart-part, appended-more, appended-long, appended-part}
-use Rattle.text.specs.declared.Span.{Span}
+use Rattle.symbols.specs.declared.Span.{Span}
 use Rattle.operands.specs.Strip.{whole, strip-length}
 use Rattle.fractions.specs.declared.Operands.{Operands}
 use Rattle.fractions.specs.Slash.{Ordered, fraction}

@@ -3,8 +3,8 @@ use super::Outcome;
 use super::Round;
 use super::regular::convert_regular_fractions;
 use super::same::is_same;
+use search::Found;
 use text::CAP;
-use text::Found;
 use text::Progress;
 use text::Refusal;
 ghost use Rattle.spec.specs.Fractions.{convertFractions, settle as settled};
@@ -86,7 +86,7 @@ pub fn convert_fractions(work: &mut [u8], progress: Progress) -> Progress
         return progress;
     };
     let end = from + n;
-    let Found::At(k) = text::find(&work[from..end], b"/") else {
+    let Found::At(k) = search::find(&work[from..end], b"/") else {
         return progress;
     };
     settle(work, from, n)

@@ -1,8 +1,8 @@
 // What becomes of a slash: its operands, from the searches to its left and to its right. Nothing is written here.
 use super::Operands;
 use super::Slash;
-use text::Found;
-use text::Span;
+use search::Found;
+use symbols::Span;
 ghost use Prim.Native.Nat.{_<_};
 ghost use lib.ListN.{length};
 ghost use Rattle.operands.specs.Places.{Place};
@@ -14,18 +14,18 @@ pub fn slash_at(s: &[u8], i: usize) -> Slash
     requires { ⌜ i < length (now s) ⌝ }
     ensures { λ r. ⌜ Slashed (now (s .entry)) i r ⌝ }
 {
-    if operands::is_inside_subscript_context(s, i) {
+    if numerators::is_inside_subscript_context(s, i) {
         return Slash::Stays;
     }
-    let over = operands::skip_blanks_back(s, i);
-    let Found::At(start) = operands::find_fraction_part_before(s, over) else {
+    let over = numerators::skip_blanks_back(s, i);
+    let Found::At(start) = numerators::find_fraction_part_before(s, over) else {
         return Slash::Stays;
     };
-    let under = operands::skip_blanks(s, i + 1);
-    if operands::is_barred(s, under) {
+    let under = denominators::skip_blanks(s, i + 1);
+    if denominators::is_barred(s, under) {
         return Slash::Barred;
     }
-    let Found::At(end) = operands::find_fraction_part_after(s, under) else {
+    let Found::At(end) = denominators::find_fraction_part_after(s, under) else {
         return Slash::Stays;
     };
     Slash::Converts(Operands {

@@ -1,11 +1,11 @@
 // Writing a fraction: its operands are copied from the text, without their parentheses.
 use super::Operands;
+use symbols::Span;
 use text::CAP;
-use text::Span;
 ghost use Prim.Native.Nat.{_+_, _-_, _≤_};
 ghost use Rattle.spec.specs.Fractions.{stripOuterParens};
-ghost use Rattle.text.specs.Parts.{part};
-ghost use Rattle.text.specs.Trim.{spanned};
+ghost use Rattle.symbols.specs.Parts.{part};
+ghost use Rattle.symbols.specs.Trim.{spanned};
 ghost use Rattle.text.specs.Writer.{Room, Appended, Regions};
 ghost use Rattle.fractions.specs.Slash.{Ordered, fraction};
 ghost use Rattle.fractions.specs.Writing.{Source};

@@ -14,7 +14,7 @@ use lib.ListN.{length, getD, drop, length-take, drop-of-length-le}
 use lib.Seq.{drop-cons}
 use borrow.Author.Tests.{eq-eqb, ne-eqb}
 use Rattle.spec.specs.Held.{filled}
-use Rattle.text.specs.Parts.{part, length-part, getD-part}
+use Rattle.symbols.specs.Parts.{part, length-part, getD-part}
 use Rattle.text.specs.Writer.{Room, Appended, Apart, appended-none, appended-more, appended-long, appended-part, puts-outside}
 use Rattle.held.specs.Marks.{count, blockAt}
 use Rattle.held.specs.InFull.{returned, filled-returned}

@@ -14,7 +14,7 @@ use lib.Dec.{ltb}
 use borrow.Author.Tests.{ltb-true}
 use lib.ListN.{length, set, length-append}
 use lib.Seq.{set-comm}
-use Rattle.text.specs.Parts.{part}
+use Rattle.symbols.specs.Parts.{part}
 use Rattle.text.specs.Writer.{stored, puts, Appended, Apart, appended-none, appended-more}
 use Rattle.held.specs.Marks.{joined}
 

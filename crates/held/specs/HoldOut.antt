@@ -17,11 +17,11 @@ use Rattle.spec.specs.Symbols.{starts}
 use Rattle.spec.specs.Laws.Symbols.{starts-long}
 use Rattle.spec.specs.Closing.{findMatchingBrace}
 use Rattle.spec.specs.Held.{Taken, takeOut}
-use Rattle.text.specs.Parts.{part, length-part, rest-part, sub-part}
+use Rattle.symbols.specs.Parts.{part, length-part, rest-part, sub-part}
 use Rattle.text.specs.Writer.{Room, Appended, Apart, apart-part, appended-long, appended-part}
-use Rattle.text.specs.Search.{Closes, closes-at, closes-within, closes-nothing}
-use Rattle.text.specs.declared.Found.{Found}
-use Rattle.text.specs.declared.Found.the-variants.{At, Nothing}
+use Rattle.search.specs.Search.{Closes, closes-at, closes-within, closes-nothing}
+use Rattle.search.specs.declared.Found.{Found}
+use Rattle.search.specs.declared.Found.the-variants.{At, Nothing}
 use Rattle.held.specs.TakeOut.{turn-passing, turn-unclosed, turn-holding}
 use Rattle.held.specs.Filing.{blocksAt, blocksRoom, placesAt, placesRoom, HeldOut, Kept, held-none, held-text, held-block}
 

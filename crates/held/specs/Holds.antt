@@ -13,7 +13,7 @@ use native.Mathlib.Omega.{arith}
 use lib.ListN.{length, drop, length-append}
 use Rattle.spec.specs.Symbols.{bytes, textMark, romanMark}
 use Rattle.spec.specs.Held.{Held, withText, holdTexts, holdBoth, filled, inFull}
-use Rattle.text.specs.Parts.{part}
+use Rattle.symbols.specs.Parts.{part}
 use Rattle.text.specs.Writer.{Appended, Apart, appended-long, appended-part}
 use Rattle.text.specs.Written.{appended-text, appended-written, wrote-beyond}
 use Rattle.held.specs.declared.Marked.{Marked}

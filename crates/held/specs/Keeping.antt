@@ -12,7 +12,7 @@ use native.Mathlib.Nat.{add-zero, zero-add, add-suc, suc-add, not-suc-le-zero}
 use native.Mathlib.Omega.{arith}
 use lib.ListN.{length, getD, take, drop, length-append}
 use lib.Seq.{drop-drop, drop-append-add, take-append-seam, getD-take, getD-drop}
-use Rattle.text.specs.Parts.{part, getD-part, sub-part}
+use Rattle.symbols.specs.Parts.{part, getD-part, sub-part}
 use Rattle.text.specs.Writer.{Appended, appended-long, appended-part}
 use Rattle.text.specs.Written.{Wrote, wrote-more, wrote-text}
 use Rattle.held.specs.Marks.{blockAt, joined}

@@ -22,7 +22,6 @@ pub mod Instances
 pub mod Filing
 pub mod HoldOut
 pub mod Back
-pub mod Reading
 pub mod Limits
 pub mod Keeping
 pub mod Holds

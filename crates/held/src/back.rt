@@ -3,7 +3,7 @@ ghost use mathlib.Core.Path.{_≡_};
 ghost use Prim.Native.Nat.{_+_, _≤_};
 ghost use lib.ListN.{length};
 ghost use Rattle.spec.specs.Held.{filled};
-ghost use Rattle.text.specs.Parts.{part};
+ghost use Rattle.symbols.specs.Parts.{part};
 ghost use Rattle.text.specs.Writer.{Room, Appended};
 ghost use Rattle.held.specs.Marks.{count};
 ghost use Rattle.held.specs.Filing.{blocksAt};

@@ -1,10 +1,10 @@
 // Holding blocks out.
 use super::Marked;
-use text::Found;
+use search::Found;
 ghost use mathlib.Core.Path.{_≡_};
 ghost use Prim.Native.Nat.{_+_, _<_, _≤_};
 ghost use lib.ListN.{length};
-ghost use Rattle.text.specs.Parts.{part};
+ghost use Rattle.symbols.specs.Parts.{part};
 ghost use Rattle.text.specs.Writer.{Room, Appended, Apart};
 ghost use Rattle.held.specs.Filing.{blocksAt, blocksRoom, placesAt, placesRoom, pair, place, Kept, HeldOut};
 ghost use Rattle.held.specs.HoldOut.{Hold, takenFrom};
@@ -76,7 +76,7 @@ pub fn hold_out(
     let mut i = 0;
     while i < n {
         let at = from + i;
-        if !text::starts_with(&work[at..end], name) {
+        if !search::starts_with(&work[at..end], name) {
             len = text::copy(work, at, 1, to, text::CAP, len);
             i += 1;
             continue;

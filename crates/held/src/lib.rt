@@ -4,12 +4,9 @@
 // other, and then their places.
 mod back;
 mod hold;
-mod losing;
 
 pub use back::put_back;
 pub use hold::hold_out;
-pub use losing::has_mark;
-pub use losing::lost;
 ghost use mathlib.Core.Path.{_≡_};
 ghost use Prim.Native.Nat.{_<_};
 
@@ -20,7 +17,7 @@ pub const ROMAN: u8 = 3;
 
 // Where the blocks stand, and their places: a place is a block's start and its length, two bytes each. A `\mathrm` block is
 // stored with the marks in it, so blocks can take more bytes than the text has symbols.
-const BLOCKS_AT: usize = 16_384;
+pub const BLOCKS_AT: usize = 16_384;
 
 const BLOCKS_ROOM: usize = 11_264;
 
@@ -36,7 +33,7 @@ pub struct Marked {
 }
 
 // A byte as a number.
-fn wide(b: u8) -> usize
+pub fn wide(b: u8) -> usize
     ensures { λ r. ⌜ (r ≡ b) × (r < 256) ⌝ }
 {
     b as usize

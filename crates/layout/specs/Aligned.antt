@@ -12,10 +12,10 @@ use borrow.Author.Tests.{eq-eqb, ne-eqb}
 use Rattle.spec.specs.Symbols.{bytes, is, empty, trim, starts, ends}
 use Rattle.spec.specs.Finish.{hasAlignment, hasLineBreaks, lineBreaks, aligned, convertAlignment}
 use Rattle.spec.specs.Laws.Symbols.{drop-step, head-drop}
-use Rattle.text.specs.Parts.{part, length-part, whole-part}
+use Rattle.symbols.specs.Parts.{part, length-part, whole-part}
 use Rattle.text.specs.Writer.{Regions, Appended, appended-more}
 use Rattle.text.specs.Filling.{Filling, filling-more, filling-source, filling-symbol, passed-by, passed-more}
-use Rattle.text.specs.declared.Span.{Span}
+use Rattle.symbols.specs.declared.Span.{Span}
 use Rattle.layout.specs.Breaks.{breakAt, piece, lined, lined-all, lines-broken}
 use Rattle.layout.specs.Lines.{Trimmed, trim-broken}
 use Rattle.layout.specs.Thin.{all-passed}

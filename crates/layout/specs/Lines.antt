@@ -11,7 +11,7 @@ use native.Mathlib.Omega.{arith}
 use lib.ListN.{length, getD, take, drop, length-take, length-drop}
 use borrow.Author.Tests.{eqb-true}
 use Rattle.spec.specs.Symbols.{is, blank, head, empty, dropWhile, dropWhileEnd, trim}
-use Rattle.text.specs.declared.Span.{Span}
+use Rattle.symbols.specs.declared.Span.{Span}
 use Rattle.layout.specs.Breaks.{breaks, piece, broken, lined}
 
 -- ---- dropping from the end

@@ -16,13 +16,13 @@ use borrow.Author.Tests.{eqb-true, eqb-false, eq-eqb, ne-eqb, lt-ltb}
 use Rattle.spec.specs.Symbols.{bytes, is, letter, head, same, empty, until, dropWhile, starts, find}
 use Rattle.spec.specs.Finish.{atomCommands, oneOf, spacingCommand, spacing, gapFrom, gap, thinSpaces, dropThinSpaceAfterCommands}
 use Rattle.spec.specs.Laws.Symbols.{drop-step, starts-long}
-use Rattle.text.specs.Parts.{part, length-part, whole-part, rest-part, getD-before, sub-part}
-use Rattle.text.specs.Search.{Finds, finds-nothing, reach, until-drop}
+use Rattle.symbols.specs.Parts.{part, length-part, whole-part, rest-part, getD-before, sub-part}
+use Rattle.search.specs.Search.{Finds, finds-nothing, reach, until-drop}
 use Rattle.text.specs.Writer.{Regions, Appended, appended-part}
 use Rattle.text.specs.Sweep.{rest}
 use Rattle.text.specs.Filling.{Filling, filling-more, filling-symbol, passed-by, passed-more, passed-head}
-use Rattle.text.specs.declared.Found.{Found}
-use Rattle.text.specs.declared.Found.the-variants.{At, Nothing}
+use Rattle.search.specs.declared.Found.{Found}
+use Rattle.search.specs.declared.Found.the-variants.{At, Nothing}
 
 -- ---- the last backslash
 abbrev pub other : ℕ → Bool

@@ -1,8 +1,8 @@
 // Line breaks and alignment. A line break is a backslash behind a space, before a newline or at the very end: it is doubled. A text with
 // `&` is trimmed and set in an environment. Since blanks are written as they are, trimming what is read trims what is written.
-use text::Class;
+use symbols::Class;
+use symbols::Span;
 use text::Progress;
-use text::Span;
 ghost use Prim.Native.Nat.{_≤_, _<_};
 ghost use mathlib.Core.Path.{_≡_};
 ghost use lib.ListN.{length};
@@ -18,7 +18,7 @@ ghost use Rattle.layout.specs.Aligned.{Lines, Aligned};
 fn has_alignment(s: &[u8]) -> bool
     ensures { λ r. ⌜ r ≡ hasAlignment (now (s .entry)) ⌝ }
 {
-    text::contains(s, b"&")
+    search::contains(s, b"&")
 }
 
 fn ends_in_break(s: &[u8]) -> bool
@@ -34,7 +34,7 @@ fn ends_in_break(s: &[u8]) -> bool
 fn has_line_breaks(s: &[u8]) -> bool
     ensures { λ r. ⌜ r ≡ hasLineBreaks (now (s .entry)) ⌝ }
 {
-    text::contains(s, b" \\\n") | ends_in_break(s)
+    search::contains(s, b" \\\n") | ends_in_break(s)
 }
 
 // Whether the symbol at a place is a line break.
@@ -44,7 +44,8 @@ fn is_break(s: &[u8], i: usize) -> bool
 {
     let next = i + 1;
     (s[i] == b'\\')
-        & ((text::before(s, i) == b' ') & ((text::symbol(s, next) == b'\n') | (s.len() == next)))
+        & ((search::before(s, i) == b' ')
+            & ((search::symbol(s, next) == b'\n') | (s.len() == next)))
 }
 
 // Appends a symbol, once or twice.
@@ -91,9 +92,9 @@ fn trimmed(s: &[u8]) -> Span
 {
     let n = s.len();
     let whole = Span { start: 0, end: n };
-    let rest = text::skip(s, whole, Class::Blank);
+    let rest = symbols::skip(s, whole, Class::Blank);
     let start = n - (rest.end - rest.start);
-    let kept = text::trim(s, whole, Class::Blank);
+    let kept = symbols::trim(s, whole, Class::Blank);
     let end = start + (kept.end - kept.start);
     Span { start, end }
 }

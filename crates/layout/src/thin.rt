@@ -1,13 +1,13 @@
 // A thin space `\;` is dropped behind a control word, which carries its own spacing. Whether one stands there is told by the last
 // backslash since the thin space before; what was written since then is what was read.
-use text::Found;
+use search::Found;
 use text::Progress;
 ghost use mathlib.Core.Path.{_≡_};
 ghost use mathlib.Core.List.{reverse};
 ghost use Rattle.spec.specs.Symbols.{bytes, same, starts};
 ghost use Rattle.spec.specs.Result.{stage};
 ghost use Rattle.spec.specs.Finish.{atomCommands, oneOf, spacing, gap, dropThinSpaceAfterCommands};
-ghost use Rattle.text.specs.Parts.{part};
+ghost use Rattle.symbols.specs.Parts.{part};
 ghost use Rattle.text.specs.Writer.{Room, Appended, Regions};
 ghost use Rattle.text.specs.Stage.{Ready, Staged};
 ghost use Rattle.layout.specs.Thin.{LastBackslash, Letters, argument, gapIf};
@@ -32,7 +32,7 @@ fn letters(s: &[u8]) -> usize
 {
     let mut end = 0;
     while end < s.len() {
-        if !text::is_letter(s[end]) {
+        if !symbols::is_letter(s[end]) {
             return end;
         }
         end += 1;
@@ -46,7 +46,7 @@ fn is_same(a: &[u8], b: &[u8]) -> bool
     if a.len() != b.len() {
         return false;
     }
-    text::starts_with(b, a)
+    search::starts_with(b, a)
 }
 
 // A command that sets an atom: a word behind it still wants a space.
@@ -92,7 +92,7 @@ fn keeps_gap(s: &[u8]) -> bool
 fn is_gap(s: &[u8]) -> bool
     ensures { λ r. ⌜ r ≡ starts (bytes "\\;") (now (s .entry)) ⌝ }
 {
-    text::starts_with(s, b"\\;")
+    search::starts_with(s, b"\\;")
 }
 
 // Appends a thin space, or nothing.
@@ -140,7 +140,7 @@ pub fn drop_thin_space_after_commands(work: &mut [u8], text: Progress) -> Progre
         return text;
     };
     let end = from + n;
-    let Found::At(_) = text::find(&work[from..end], b"\\;") else {
+    let Found::At(_) = search::find(&work[from..end], b"\\;") else {
         return text;
     };
     let to = text::CAP - from;

@@ -1,20 +1,15 @@
 -- What an answer means, and what the steps of a call ensure. Assumes nothing.
---     meaning    an answer in document 01's numbers
---     Admits     the formula stands in the work buffer, or a number refuses it
---     Bare, Fit  what stages ask of a text, if there is one: it holds no mark of a held block, and number 3 lets its table pass
---     PutOut     the finished text stands in the output, or a number refuses the call
+--     meaning  an answer in document 01's numbers
+--     Admits   the formula stands in the work buffer, or a number refuses it
+--     PutOut   the finished text stands in the output, or a number refuses the call
 use mathlib.Core.Path.{_≡_}
-use mathlib.Core.Bool.{false}
 use mathlib.Core.List.{List}
-use mathlib.Core.Option.{some}
 use Prim.Native.Nat.{ℕ}
 use lib.ListN.{length}
 use Rattle.spec.specs.Result.{Result, passed, refused, _then_}
-use Rattle.spec.specs.Table.{definitions}
-use Rattle.spec.specs.Pipeline.{definitionsOr, admitted, fitting, answerOf, outputAfter}
+use Rattle.spec.specs.Pipeline.{admitted, fitting, answerOf, outputAfter}
 use Rattle.text.specs.Stage.{number, shown, Ready}
 use Rattle.text.specs.declared.Progress.{Progress}
-use Rattle.held.specs.Marks.{hasMark}
 use Rattle.math_conv.specs.declared.Answer.{Answer}
 use Rattle.math_conv.specs.declared.Answer.the-variants.{Done, Refused}
 
@@ -26,13 +21,6 @@ pub record Admits (formula table w w′ : List ℕ) (p : Progress) : Type 0 wher
   pub shows : shown p w′ ≡ admitted formula table w
   pub ready : Ready w′ p
   pub long : length w′ ≡ length w
-
-pub record Bare (r : Result (List ℕ)) : Type 0 where
-  pub unmarked : (s : List ℕ) → r ≡ passed s → hasMark s ≡ false
-
-pub record Fit (table : List ℕ) (r : Result (List ℕ)) : Type 0 where
-  pub bare : Bare r
-  pub sound : (s : List ℕ) → r ≡ passed s → definitions table ≡ some (definitionsOr table)
 
 pub record PutOut (w : List ℕ) (p : Progress) (answer : Answer) (output output′ : List ℕ) : Type 0 where
   pub answers : meaning answer ≡ answerOf (shown p w then fitting output)

@@ -1,5 +1,4 @@
 -- What the entry's contract cites.
 pub mod Answer
 pub mod Steps
-pub mod Chain
 pub mod Fits

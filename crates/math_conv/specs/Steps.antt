@@ -20,17 +20,18 @@ use Rattle.spec.specs.Table.{Definition, definitions, byLength}
 use Rattle.spec.specs.Laws.Table.{by-length-order}
 use Rattle.spec.specs.Laws.Booleans.{or-neither-left, or-neither-right}
 use Rattle.spec.specs.Pipeline.{mostFormula, leastWork, definitionsOr, readable, admitted, typstToLatex, fitting, converted, answerOf, outputAfter, workAfter, Call}
-use Rattle.text.specs.Parts.{part, length-part}
+use Rattle.symbols.specs.Parts.{part, length-part}
 use Rattle.text.specs.Stage.{shown, Ready, Answered, placed-fits}
 use Rattle.text.specs.declared.Progress.{Progress}
 use Rattle.text.specs.declared.Progress.the-variants.{Text, Refused}
 use Rattle.text.specs.declared.Refusal.{Refusal}
 use Rattle.text.specs.declared.Refusal.the-variants.{ForeignByte, LongFormula, FaultyTable, ShortOutput}
-use Rattle.table.specs.Faults.{refused as isRefused}
+use Rattle.table.specs.Sound.{refused as isRefused}
 use Rattle.held.specs.Marks.{isMark, hasMark}
 use Rattle.math_conv.specs.declared.Answer.{Answer}
 use Rattle.math_conv.specs.declared.Answer.the-variants.{Done, Refused as RefusedBy}
-use Rattle.math_conv.specs.Answer.{meaning, Admits, Fit, PutOut}
+use Rattle.stages.specs.Fit.{Fit}
+use Rattle.math_conv.specs.Answer.{meaning, Admits, PutOut}
 use Rattle.stage_laws.specs.Late.{Late, passes, refuses, then-late, stages-late}
 
 -- ---- admission

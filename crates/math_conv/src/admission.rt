@@ -19,7 +19,7 @@ pub fn admit(work: &mut [u8], formula: &[u8], table: &[u8]) -> Progress
     if has_foreign(formula) {
         return Progress::Refused(Refusal::ForeignByte);
     }
-    if table::is_faulty(table) {
+    if table_faults::is_faulty(table) {
         return Progress::Refused(Refusal::FaultyTable);
     }
     copy_over(work, formula);
@@ -31,7 +31,7 @@ fn has_foreign(formula: &[u8]) -> bool
     ensures { λ r. ⌜ r ≡ any foreign (now (formula .entry)) ⌝ }
 {
     for i in 0..formula.len() {
-        if text::is_foreign(formula[i]) {
+        if symbols::is_foreign(formula[i]) {
             return true;
         }
     }

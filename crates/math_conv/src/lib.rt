@@ -1,7 +1,6 @@
 // The entry: a formula and a definition table in, LaTeX out, over lent buffers.
 mod admission;
 mod output;
-mod stages;
 
 use admission::admit;
 use output::put_out;

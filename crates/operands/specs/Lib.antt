@@ -1,8 +1,4 @@
--- What the contracts of `operands` cite, and the laws of its searches.
+-- What the contracts of `operands` cite, and the laws that the searches on both sides of a slash share.
 pub mod Places
-pub mod Past
-pub mod Ends
-pub mod After
-pub mod Before
-pub mod Script
+pub mod Blanks
 pub mod Strip

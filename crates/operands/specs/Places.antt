@@ -14,10 +14,10 @@ use lib.Seq.{take-take, drop-drop}
 use Rattle.spec.specs.Symbols.{head, until}
 use Rattle.spec.specs.Closing.{orEnd}
 use Rattle.spec.specs.Laws.Symbols.{head-drop}
-use Rattle.text.specs.Parts.{part}
-use Rattle.text.specs.Search.{onward, reach, Closes, closes-at, closes-within}
-use Rattle.text.specs.declared.Found.{Found}
-use Rattle.text.specs.declared.Found.the-variants.{At, Nothing}
+use Rattle.symbols.specs.Parts.{part}
+use Rattle.search.specs.Search.{onward, reach, Closes, closes-at, closes-within}
+use Rattle.search.specs.declared.Found.{Found}
+use Rattle.search.specs.declared.Found.the-variants.{At, Nothing}
 use Rattle.closing.specs.Backward.{before, leftBefore, ClosesBack}
 
 -- a place in a text within number 5's limit

@@ -12,9 +12,9 @@ use Rattle.spec.specs.Symbols.{is, head, past, blank, dropWhile, trim}
 use Rattle.spec.specs.Closing.{level}
 use Rattle.spec.specs.Fractions.{innerOr, stripTrimmed, stripOuterParens}
 use Rattle.spec.specs.Laws.Symbols.{head-drop, past-drop}
-use Rattle.text.specs.Parts.{part, rest-of, length-part, sub-part}
-use Rattle.text.specs.Trim.{Narrowed, spanned}
-use Rattle.text.specs.declared.Span.{Span}
+use Rattle.symbols.specs.Parts.{part, rest-of, length-part, sub-part}
+use Rattle.symbols.specs.Trim.{Narrowed, spanned}
+use Rattle.symbols.specs.declared.Span.{Span}
 use Rattle.closing.specs.Backward.{before, before-step, before-all}
 
 abbrev pub whole : List ℕ → Span

@@ -8,14 +8,14 @@ ghost use Rattle.spec.specs.Fractions.{operandSymbol, inOperand, nameSymbol};
 pub fn is_operand_symbol(b: u8) -> bool
     ensures { λ r. ⌜ r ≡ operandSymbol b ⌝ }
 {
-    text::is_alnum(b) | ((b == b'_') | (b == b'\\'))
+    symbols::is_alnum(b) | ((b == b'_') | (b == b'\\'))
 }
 
 // A symbol of an operand, or a decimal point between two digits.
 pub fn is_in_operand(x: u8, y: u8, z: u8) -> bool
     ensures { λ r. ⌜ r ≡ inOperand x y z ⌝ }
 {
-    is_operand_symbol(y) | ((y == b'.') & (text::is_digit(x) & text::is_digit(z)))
+    is_operand_symbol(y) | ((y == b'.') & (symbols::is_digit(x) & symbols::is_digit(z)))
 }
 
 // A symbol of the name before a bracket.
@@ -29,7 +29,7 @@ pub fn is_name_symbol(b: u8) -> bool
 pub fn is_exponent_symbol(b: u8) -> bool
     ensures { λ r. ⌜ r ≡ alnum b || is "-" b ⌝ }
 {
-    text::is_alnum(b) | (b == b'-')
+    symbols::is_alnum(b) | (b == b'-')
 }
 
 pub fn is_script_sign(b: u8) -> bool

@@ -1,5 +1,5 @@
 // Closing searches from a place in a text, by the tally of `closing`.
-use text::Found;
+use search::Found;
 ghost use Rattle.spec.specs.Closing.{close, orEnd};
 ghost use lib.ListN.{drop};
 ghost use Rattle.closing.specs.Backward.{before};

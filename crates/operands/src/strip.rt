@@ -1,11 +1,11 @@
 // strip_outer_parens: an operand without the blanks around it and without its outer parentheses.
-use text::Class;
-use text::Span;
+use symbols::Class;
+use symbols::Span;
 ghost use mathlib.Core.Path.{_≡_};
 ghost use Prim.Native.Nat.{_≤_};
 ghost use lib.ListN.{length};
 ghost use Rattle.spec.specs.Fractions.{stripTrimmed, stripOuterParens};
-ghost use Rattle.text.specs.Trim.{Narrowed};
+ghost use Rattle.symbols.specs.Trim.{Narrowed};
 ghost use Rattle.operands.specs.Strip.{whole};
 
 // A text that begins and ends with no blank, without its outer parentheses.
@@ -35,7 +35,7 @@ pub fn strip_outer_parens(s: &[u8]) -> &[u8]
     requires { ⌜ length (now s) ≤ 8192 ⌝ }
     ensures { λ r. ⌜ now r ≡ stripOuterParens (now (s .entry)) ⌝ }
 {
-    let span = text::trim(s, all(s), Class::Blank);
+    let span = symbols::trim(s, all(s), Class::Blank);
     let start = span.start;
     let end = span.end;
     strip_trimmed(&s[start..end])
@@ -47,7 +47,7 @@ pub fn operand_span(s: &[u8]) -> Span
     ensures { λ r. ⌜ Narrowed (now (s .entry)) (whole (now (s .entry))) r (stripOuterParens (now (s .entry))) ⌝ }
 {
     let n = strip_outer_parens(s).len();
-    let span = text::trim(s, all(s), Class::Blank);
+    let span = symbols::trim(s, all(s), Class::Blank);
     if n < span.end - span.start {
         return Span {
             start: span.start + 1,

@@ -71,7 +71,7 @@ pub fn closed(s: &[u8], r: Read) -> Read
         return Read::Nothing;
     };
     let n = p.used;
-    if text::symbol(s, n) != b')' {
+    if search::symbol(s, n) != b')' {
         return Read::Nothing;
     }
     Read::Found(Part {

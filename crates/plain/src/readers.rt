@@ -45,7 +45,7 @@ fn factor(s: &[u8]) -> Read
     };
     let n = p.used;
     let t = tokens::rest(s, n);
-    if text::symbol(t, 0) == b'/' {
+    if search::symbol(t, 0) == b'/' {
         return joins::divided(p, operand(tokens::rest(t, 1)));
     }
     if p.lone {
@@ -62,7 +62,7 @@ fn operand(s: &[u8]) -> Read
     if 0 < n {
         return joins::leaf(n, 1, true);
     }
-    if text::symbol(s, 0) == b'(' {
+    if search::symbol(s, 0) == b'(' {
         let t = tokens::rest(s, 1);
         return joins::closed(t, sum(t));
     }
@@ -85,11 +85,11 @@ fn script(s: &[u8], sign: u8) -> Read
     requires { ⌜ 0 < sign ⌝ }
     ensures { λ r. ⌜ Answers (readScript sign) 0 (now (s .entry)) r ⌝ }
 {
-    if text::symbol(s, 0) != sign {
+    if search::symbol(s, 0) != sign {
         return joins::leaf(0, 0, true);
     }
     let t = tokens::rest(s, 1);
-    if text::is_alnum(text::symbol(t, 0)) {
+    if symbols::is_alnum(search::symbol(t, 0)) {
         return joins::leaf(2, 0, false);
     }
     joins::grouped(operand(t))

@@ -15,16 +15,18 @@ pub fn rest(s: &[u8], n: usize) -> &[u8]
 pub fn sign_next(s: &[u8]) -> bool
     ensures { λ r. ⌜ r ≡ signNext (now (s .entry)) ⌝ }
 {
-    let sign = text::symbol(s, 1);
-    (text::symbol(s, 0) == b' ') & ((sign == b'+') | (sign == b'-')) & (text::symbol(s, 2) == b' ')
+    let sign = search::symbol(s, 1);
+    (search::symbol(s, 0) == b' ')
+        & ((sign == b'+') | (sign == b'-'))
+        & (search::symbol(s, 2) == b' ')
 }
 
 // Does a space come next that stands before no sign?
 pub fn factor_next(s: &[u8]) -> bool
     ensures { λ r. ⌜ r ≡ factorNext (now (s .entry)) ⌝ }
 {
-    let sign = text::symbol(s, 1);
-    (text::symbol(s, 0) == b' ') & (sign != b'+') & (sign != b'-')
+    let sign = search::symbol(s, 1);
+    (search::symbol(s, 0) == b' ') & (sign != b'+') & (sign != b'-')
 }
 
 // How many letters and digits come next.
@@ -33,7 +35,7 @@ fn run(s: &[u8]) -> usize
 {
     let mut i = 0;
     while i < s.len() {
-        if !text::is_alnum(s[i]) {
+        if !symbols::is_alnum(s[i]) {
             return i;
         }
         i += 1;
@@ -46,7 +48,7 @@ fn all_digits(s: &[u8]) -> bool
 {
     let mut i = 0;
     while i < s.len() {
-        if !text::is_digit(s[i]) {
+        if !symbols::is_digit(s[i]) {
             return false;
         }
         i += 1;
@@ -60,7 +62,7 @@ fn is_atom(s: &[u8]) -> bool
 {
     let n = s.len();
     let number = all_digits(s) & ((0 < n) & (n < 10));
-    let variable = text::is_letter(text::symbol(s, 0)) & (n == 1);
+    let variable = symbols::is_letter(search::symbol(s, 0)) & (n == 1);
     number | (variable | rows::is_greek(s))
 }
 

@@ -9,9 +9,9 @@ const SHOWN: usize = 60;
 fn line(s: &[u8]) -> usize
     ensures { λ r. ⌜ r ≤ length (now (s .entry)) ⌝ }
 {
-    match text::find(s, b"\n") {
-        text::Found::At(k) => k,
-        text::Found::Nothing => s.len(),
+    match search::find(s, b"\n") {
+        search::Found::At(k) => k,
+        search::Found::Nothing => s.len(),
     }
 }
 

@@ -15,11 +15,11 @@ use lib.Seq.{drop-drop, take-at}
 use Rattle.spec.specs.Symbols.{bytes, is, alnum, blank, head, dropWhile, trimStart, find}
 use Rattle.spec.specs.Quotes.{gapBefore, openQuote, gapBehind, closeQuote, skipped, quotes, convertTextQuotes}
 use Rattle.spec.specs.Laws.Symbols.{drop-step, head-drop}
-use Rattle.text.specs.Parts.{part, rest-of}
-use Rattle.text.specs.Trim.{Skipped}
+use Rattle.symbols.specs.Parts.{part, rest-of}
+use Rattle.symbols.specs.Trim.{Skipped}
 use Rattle.text.specs.Writer.{Appended}
 use Rattle.text.specs.Written.{Wrote, Written, wrote-none, wrote-more, wrote-less}
-use Rattle.text.specs.declared.Span.{Span}
+use Rattle.symbols.specs.declared.Span.{Span}
 use Rattle.quotes.specs.declared.Tail.{Tail}
 use Rattle.quotes.specs.declared.After.{After}
 

@@ -1,16 +1,16 @@
 // Quoted text: `"..."` becomes `\text{...}`, with a thin space where a letter, digit, closing brace or another quote is its
 // neighbour. Blanks before such a neighbour are dropped, also those written already: what has been written is never read back, its
 // end is handed on by value.
-use text::Class;
-use text::Found;
+use search::Found;
+use symbols::Class;
+use symbols::Span;
 use text::Progress;
-use text::Span;
 ghost use mathlib.Core.Path.{_≡_};
 ghost use Prim.Native.Nat.{_≤_, _<_};
 ghost use lib.ListN.{length};
 ghost use Rattle.spec.specs.Result.{stage};
 ghost use Rattle.spec.specs.Quotes.{convertTextQuotes};
-ghost use Rattle.text.specs.Parts.{part};
+ghost use Rattle.symbols.specs.Parts.{part};
 ghost use Rattle.text.specs.Writer.{Room, Appended, Regions};
 ghost use Rattle.text.specs.Written.{Written};
 ghost use Rattle.text.specs.Stage.{Ready, Staged};
@@ -35,7 +35,7 @@ impl Tail {
         requires { ⌜ self .blanks < 65536 ⌝ }
         ensures { λ r. ⌜ r ≡ grownBy self symbol ⌝ }
     {
-        if text::is_blank(symbol) {
+        if symbols::is_blank(symbol) {
             return Tail {
                 last: self.last,
                 blanks: self.blanks + 1,
@@ -49,7 +49,7 @@ impl Tail {
         ensures { λ r. ⌜ r ≡ gapAt self ⌝ }
     {
         let last = self.last;
-        text::is_alnum(last) | (last == b'}')
+        symbols::is_alnum(last) | (last == b'}')
     }
 }
 
@@ -64,7 +64,7 @@ fn after_quote(s: &[u8], i: usize) -> After
     requires { ⌜ i ≤ length (now s) ⌝ }
     ensures { λ r. ⌜ ClosedAt (now (s .entry)) i r ⌝ }
 {
-    let span = text::skip(
+    let span = symbols::skip(
         s,
         Span {
             start: i,
@@ -73,8 +73,8 @@ fn after_quote(s: &[u8], i: usize) -> After
         Class::Blank,
     );
     let next = span.start;
-    let symbol = text::symbol(s, next);
-    if text::is_alnum(symbol) | (symbol == b'"') {
+    let symbol = search::symbol(s, next);
+    if symbols::is_alnum(symbol) | (symbol == b'"') {
         return After { gap: true, next };
     }
     After {
@@ -161,7 +161,7 @@ pub fn convert_text_quotes(work: &mut [u8], text: Progress) -> Progress
         return text;
     };
     let end = from + n;
-    let Found::At(_) = text::find(&work[from..end], b"\"") else {
+    let Found::At(_) = search::find(&work[from..end], b"\"") else {
         return text;
     };
     let to = text::CAP - from;

@@ -19,12 +19,12 @@ use Rattle.spec.specs.Closing.{findMatchingParen, findMatchingBrace}
 use Rattle.spec.specs.Words.{braced, parenToBrace}
 use Rattle.spec.specs.Laws.Symbols.{starts-long, past-drop, drop-step}
 use Rattle.spec.specs.Laws.Sweep.{Waits}
-use Rattle.text.specs.Parts.{part, rest-of}
-use Rattle.text.specs.Search.{Closes, closes-at, closes-within, closes-nothing, inside-drop, until-drop}
-use Rattle.text.specs.Trim.{spanned}
-use Rattle.text.specs.declared.Span.{Span}
-use Rattle.text.specs.declared.Found.{Found}
-use Rattle.text.specs.declared.Found.the-variants.{At, Nothing}
+use Rattle.symbols.specs.Parts.{part, rest-of}
+use Rattle.search.specs.Search.{Closes, closes-at, closes-within, closes-nothing, inside-drop, until-drop}
+use Rattle.symbols.specs.Trim.{spanned}
+use Rattle.symbols.specs.declared.Span.{Span}
+use Rattle.search.specs.declared.Found.{Found}
+use Rattle.search.specs.declared.Found.the-variants.{At, Nothing}
 use Rattle.rewrite.specs.declared.Kind.{Kind}
 use Rattle.rewrite.specs.declared.Kind.the-variants.{Literal, ParenToBrace, WrapText, WrapMultichar}
 use Rattle.rewrite.specs.declared.Edit.{Edit}

@@ -7,11 +7,11 @@ use native.Mathlib.Omega.{arith}
 use lib.ListN.{length, getD, take, drop, length-take, length-append}
 use lib.Seq.{drop-drop}
 use Rattle.spec.specs.Sweep.{Rule}
-use Rattle.text.specs.Parts.{part}
+use Rattle.symbols.specs.Parts.{part}
 use Rattle.text.specs.Writer.{Regions, Appended}
 use Rattle.text.specs.Sweep.{Sweeping, rest, rest-read, symbols-read, sweeping-more, sweeping-kept}
-use Rattle.text.specs.Trim.{spanned}
-use Rattle.text.specs.declared.Span.{Span}
+use Rattle.symbols.specs.Trim.{spanned}
+use Rattle.symbols.specs.declared.Span.{Span}
 use Rattle.rewrite.specs.declared.Edit.{Edit}
 use Rattle.rewrite.specs.declared.Edit.the-variants.{Copy, Write}
 use Rattle.rewrite.specs.Edits.{ending, turnOf, Fits, Sound, Edited}

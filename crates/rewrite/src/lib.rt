@@ -3,16 +3,16 @@
 mod rules;
 
 pub use rules::edit_at;
-use text::Found;
+use search::Found;
+use symbols::Span;
 use text::Progress;
-use text::Span;
 ghost use Prim.Native.Nat.{_+_, _-_, _≤_};
 ghost use mathlib.Core.List.{_++_};
 ghost use lib.ListN.{length};
 ghost use Rattle.spec.specs.Result.{stage};
 ghost use Rattle.spec.specs.Sweep.{sweep, replace};
 ghost use Rattle.spec.specs.Words.{convertSqrt};
-ghost use Rattle.text.specs.Parts.{part};
+ghost use Rattle.symbols.specs.Parts.{part};
 ghost use Rattle.text.specs.Writer.{Room, Appended, Apart, Regions};
 ghost use Rattle.text.specs.Stage.{Ready, Staged};
 ghost use Rattle.rewrite.specs.Edits.{Fair, ending, ruleOf};
@@ -118,7 +118,7 @@ pub fn convert(work: &mut [u8], text: Progress, kind: Kind, pattern: &[u8], left
         return text;
     };
     let end = from + n;
-    let Found::At(_) = text::find(&work[from..end], pattern) else {
+    let Found::At(_) = search::find(&work[from..end], pattern) else {
         return text;
     };
     let to = text::CAP - from;

@@ -1,8 +1,8 @@
 // The rules: what is to be written where a pattern stands.
 use super::Edit;
 use super::Kind;
-use text::Found;
-use text::Span;
+use search::Found;
+use symbols::Span;
 ghost use mathlib.Core.Bool.{true};
 ghost use mathlib.Core.List.{List};
 ghost use Prim.Native.Nat.{ℕ, _≤_, _<_};
@@ -58,7 +58,7 @@ fn ident_end(s: &[u8]) -> usize
 {
     let mut end = 1;
     while end < s.len() {
-        if !text::is_alnum(s[end]) {
+        if !symbols::is_alnum(s[end]) {
             return end;
         }
         end += 1;
@@ -91,7 +91,7 @@ pub fn edit_at(s: &[u8], kind: Kind, pattern: &[u8]) -> Edit
     requires { ⌜ (length (now s) ≤ 16384) × (0 < length (now pattern)) ⌝ }
     ensures { λ r. ⌜ ((left : List ℕ) → Edited (ruleOf kind (now (pattern .entry)) left) left (now (s .entry)) r) ⌝ }
 {
-    if !text::starts_with(s, pattern) {
+    if !search::starts_with(s, pattern) {
         return Edit::Copy;
     }
     match kind {

@@ -14,7 +14,7 @@ use lib.ListN.{length, getD, take, drop, replicate, length-take, length-append, 
 use lib.Seq.{take-take, take-append-seam, take-append-le, drop-append-add}
 use borrow.Author.Tests.{leb-true}
 use Rattle.spec.specs.Laws.Booleans.{and-left, and-right}
-use Rattle.text.specs.Parts.{part}
+use Rattle.symbols.specs.Parts.{part}
 
 abbrev pub padded : ℕ → List ℕ → List ℕ
 padded width s = take width (s ++ replicate width 0)

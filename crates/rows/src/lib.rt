@@ -92,7 +92,7 @@ pub fn starts_with_greek(s: &[u8], row: usize) -> bool
     let names = GREEK;
     let at = row * WIDTH;
     let end = at + greek_length(row);
-    text::starts_with(s, &names[at..end])
+    search::starts_with(s, &names[at..end])
 }
 
 // Whether the text is a row's name.

@@ -11,7 +11,7 @@ use native.Mathlib.Nat.{zero-add}
 use native.Mathlib.Omega.{arith}
 use lib.ListN.{length}
 use Rattle.spec.specs.Symbols.{contains}
-use Rattle.text.specs.Parts.{part}
+use Rattle.symbols.specs.Parts.{part}
 use Rattle.text.specs.Writer.{Appended, appended-long, appended-part}
 use Rattle.text.specs.Written.{appended-text}
 

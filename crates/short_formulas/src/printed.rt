@@ -41,7 +41,7 @@ fn keep(printed: &mut [u8], used: usize, s: &[u8]) -> usize
     requires { ⌜ Room (now printed) used ⌝ }
     ensures { λ r. ⌜ Kept (now (printed .entry)) (now (printed .exit)) used r (now (s .entry)) ⌝ }
 {
-    if text::contains(printed, s) {
+    if search::contains(printed, s) {
         return used;
     }
     let n = s.len();

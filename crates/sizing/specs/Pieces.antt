@@ -18,11 +18,11 @@ use Rattle.spec.specs.Symbols.{bytes, is, scriptSign, head, until, inside, star
 use Rattle.spec.specs.Closing.{close, matchingDelimiter}
 use Rattle.spec.specs.Finish.{scriptGroup, closing, alreadySized, Group, tall, ifTall, groupOf, groupWith, tallGroup, leftRight, groupStep, scriptStep, sizeDelimitersToContent}
 use Rattle.spec.specs.Laws.Symbols.{drop-step, head-drop, starts-short}
-use Rattle.text.specs.Parts.{part, drop-take}
-use Rattle.text.specs.Search.{Closes, closes-at, closes-within, closes-nothing, reach, inside-drop, until-drop}
+use Rattle.symbols.specs.Parts.{part, drop-take}
+use Rattle.search.specs.Search.{Closes, closes-at, closes-within, closes-nothing, reach, inside-drop, until-drop}
 use Rattle.text.specs.Filling.{passed-by, passed-more}
-use Rattle.text.specs.declared.Found.{Found}
-use Rattle.text.specs.declared.Found.the-variants.{At, Nothing}
+use Rattle.search.specs.declared.Found.{Found}
+use Rattle.search.specs.declared.Found.the-variants.{At, Nothing}
 use Rattle.sizing.specs.Levels.{sizes, sizes-first, size-step, close-behind}
 use Rattle.sizing.specs.Alike.{Closer, group, sizes-alike}
 use Rattle.sizing.specs.declared.Piece.{Piece}

@@ -7,7 +7,7 @@ use native.Mathlib.Omega.{arith}
 use lib.ListN.{length, getD, take, drop, drop-of-length-le}
 use Rattle.spec.specs.Symbols.{bytes}
 use Rattle.spec.specs.Finish.{leftRight, sizeDelimitersToContent}
-use Rattle.text.specs.Parts.{part, length-part, sub-part}
+use Rattle.symbols.specs.Parts.{part, length-part, sub-part}
 use Rattle.text.specs.Writer.{Regions, Appended, Apart, apart-part, appended-more, appended-part}
 use Rattle.text.specs.Filling.{Filling, filling-more, filling-source, filling-symbol, passed-by}
 use Rattle.sizing.specs.Levels.{sizes, sizes-first, sizes-end}

@@ -1,6 +1,6 @@
 // What stands at a place of a level: a script group, a tall group, or a symbol.
 use super::Piece;
-use text::Found;
+use search::Found;
 ghost use Prim.Native.Nat.{_+_, _≤_, _<_};
 ghost use mathlib.Core.Path.{_≡_};
 ghost use mathlib.Core.Bool.{_||_};
@@ -8,24 +8,24 @@ ghost use mathlib.Core.List.{reverse};
 ghost use lib.ListN.{length, getD, drop};
 ghost use Rattle.spec.specs.Symbols.{bytes, starts, contains, scriptSign};
 ghost use Rattle.spec.specs.Finish.{tall, scriptGroup, alreadySized};
-ghost use Rattle.text.specs.Search.{Closes};
+ghost use Rattle.search.specs.Search.{Closes};
 ghost use Rattle.text.specs.Filling.{passed-by};
 ghost use Rattle.sizing.specs.Pieces.{TallIn, TallAt, PieceFor};
 
 fn is_tall(s: &[u8]) -> bool
     ensures { λ r. ⌜ r ≡ tall (now (s .entry)) ⌝ }
 {
-    text::contains(s, b"\\frac")
-        | (text::contains(s, b"\\sqrt")
-            | (text::contains(s, b"\\binom")
-                | (text::contains(s, b"\\sum") | text::contains(s, b"\\int"))))
+    search::contains(s, b"\\frac")
+        | (search::contains(s, b"\\sqrt")
+            | (search::contains(s, b"\\binom")
+                | (search::contains(s, b"\\sum") | search::contains(s, b"\\int"))))
 }
 
 // Whether a delimiter that can be sized occurs.
 pub fn has_delimiter(s: &[u8]) -> bool
     ensures { λ r. ⌜ r ≡ contains (bytes "(") (now (s .entry)) || contains (bytes "[") (now (s .entry)) ⌝ }
 {
-    text::contains(s, b"(") | text::contains(s, b"[")
+    search::contains(s, b"(") | search::contains(s, b"[")
 }
 
 fn is_script(b: u8) -> bool
@@ -43,7 +43,7 @@ fn stands_before(s: &[u8], i: usize, word: &[u8]) -> bool
         return false;
     }
     let start = i - word.len();
-    text::starts_with(&s[start..i], word)
+    search::starts_with(&s[start..i], word)
 }
 
 // Whether the delimiter at a place has its size already.
@@ -60,7 +60,7 @@ fn script_at(s: &[u8], i: usize) -> Found
     ensures { λ r. ⌜ Closes (drop (i + 1) (now (s .entry))) r (scriptGroup (getD (now (s .entry)) i 0) (drop (i + 1) (now (s .entry)))) ⌝ }
 {
     let next = i + 1;
-    if is_script(s[i]) & (text::symbol(s, next) == b'{') {
+    if is_script(s[i]) & (search::symbol(s, next) == b'{') {
         return closing::matching_delimiter(&s[next..], b'{', b'}');
     }
     Found::Nothing

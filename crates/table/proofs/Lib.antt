@@ -1,2 +1,2 @@
--- What the proofs of several functions use.
-mod Tags
+-- What the proofs of several functions use, and those of a crate that reads records too.
+pub mod Tags

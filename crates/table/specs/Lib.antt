@@ -2,6 +2,6 @@
 pub mod Records
 pub mod Reading
 pub mod Listed
-pub mod Faults
+pub mod Sound
 pub mod Order
 pub mod Sorted

@@ -16,7 +16,7 @@ use lib.Seq.{drop-drop}
 use borrow.Author.Tests.{leb-true, leb-false, ltb-true, ltb-false, le-leb, lt-leb, lt-ltb, le-ltb}
 use Rattle.spec.specs.Laws.Symbols.{drop-step}
 use Rattle.spec.specs.Table.{Definition, nameLength, latexLength, definitionOf, record-before, records}
-use Rattle.text.specs.Parts.{part, length-part}
+use Rattle.symbols.specs.Parts.{part, length-part}
 use Rattle.table.specs.Records.{records-none, records-cut, records-cons}
 use Rattle.table.specs.declared.Record.{Record}
 use Rattle.table.specs.declared.Reading.{Reading}

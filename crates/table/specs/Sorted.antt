@@ -10,7 +10,7 @@ use lib.ListN.{length}
 use borrow.Author.Tests.{eqb-true, eqb-false, le-leb, lt-leb}
 use Rattle.spec.specs.Table.{Definition, faultyName, faultyLatex, named, faulty, inserted, byLength}
 use Rattle.table.specs.Listed.{listed, listed-records}
-use Rattle.table.specs.Faults.{definitions-some}
+use Rattle.table.specs.Sound.{definitions-some}
 use Rattle.table.specs.Order.{size, ofLength, of-length-same, of-length-other, downFrom, remaining, longest, Begins}
 use Rattle.table.specs.declared.order.Cursor.{Cursor}
 

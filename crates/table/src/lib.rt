@@ -1,17 +1,10 @@
-// The definition table's bytes: reading a record, number 3's check, and the order in which definitions are applied.
-mod check;
+// The definition table's bytes: reading a record, and the order in which definitions are applied.
 mod order;
 
-pub use check::is_faulty;
 pub use order::Cursor;
 pub use order::Step;
 ghost use mathlib.Core.Path.{_≡_};
 ghost use Rattle.table.specs.Reading.{Reads};
-
-// Number 3's limits.
-pub const MOST_BYTES: usize = 32_768;
-
-pub const MOST_RECORDS: usize = 64;
 
 // A record's places in the table: the name lies from `name` to `latex`, the LaTeX from there to `next`, where the next record begins.
 pub struct Record {

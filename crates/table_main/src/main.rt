@@ -83,7 +83,7 @@ fn set(table: &mut [u8], at: usize, b: u8) {
 // Whether the table is faulty, said and answered.
 fn report_faults(what: &[u8], table: &[u8]) -> bool {
     io::write_all(1, what);
-    if table::is_faulty(table) {
+    if table_faults::is_faulty(table) {
         io::write_all(1, b": faulty\n");
         return true;
     }

@@ -9,7 +9,7 @@ use native.Mathlib.Omega.{arith}
 use lib.ListN.{length, getD, take}
 use lib.Seq.{take-suc}
 use Rattle.spec.specs.Symbols.{head}
-use Rattle.text.specs.Parts.{part, getD-part, whole-part}
+use Rattle.symbols.specs.Parts.{part, getD-part, whole-part}
 use Rattle.text.specs.Writer.{Appended, Apart, appended-none, appended-more, appended-long, appended-part}
 
 -- it began with the buffer w₀ and with `count₀` symbols written

@@ -18,10 +18,10 @@ use Rattle.spec.specs.Result.{Result, passed, refused, _then_, mostSymbols, gro
 use Rattle.spec.specs.Symbols.{find}
 use Rattle.spec.specs.Sweep.{Rule, sweep}
 use Rattle.spec.specs.Laws.Sweep.{Waits, sweep-absent}
-use Rattle.text.specs.Parts.{part, length-part, whole-part}
-use Rattle.text.specs.Search.{Finds, finds-nothing}
-use Rattle.text.specs.declared.Found.{Found}
-use Rattle.text.specs.declared.Found.the-variants.{Nothing}
+use Rattle.symbols.specs.Parts.{part, length-part, whole-part}
+use Rattle.search.specs.Search.{Finds, finds-nothing}
+use Rattle.search.specs.declared.Found.{Found}
+use Rattle.search.specs.declared.Found.the-variants.{Nothing}
 use Rattle.text.specs.Writer.{Regions}
 use Rattle.text.specs.Written.{Written, wrote-text, wrote-beyond}
 use Rattle.text.specs.declared.Refusal.{Refusal}

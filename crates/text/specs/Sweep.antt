@@ -11,7 +11,7 @@ use lib.ListN.{length, getD, take, drop, length-take}
 use Rattle.spec.specs.Sweep.{Turn, Rule, kept, sweep}
 use Rattle.spec.specs.Laws.Symbols.{drop-step}
 use Rattle.spec.specs.Laws.Sweep.{swept, swept-turn, swept-end}
-use Rattle.text.specs.Parts.{part, length-part, getD-part, rest-part, whole-part, sub-part}
+use Rattle.symbols.specs.Parts.{part, length-part, getD-part, rest-part, whole-part, sub-part}
 use Rattle.text.specs.Writer.{Room, Appended, Apart, Regions, apart-part, appended-none, appended-more, appended-long, appended-part}
 
 -- it began with the buffer w₀ and with `count₀` symbols written. A turn writes at most 1,024 symbols for each that it takes, so the count stays small

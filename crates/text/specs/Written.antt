@@ -12,7 +12,7 @@ use native.Mathlib.Decide.{decLt}
 use native.Mathlib.Omega.{arith}
 use lib.ListN.{length, getD, take, drop, length-append, List·getD-append, length-take, length-drop}
 use lib.Seq.{getD-append-add, getD-take, getD-drop, ext-getD}
-use Rattle.text.specs.Parts.{part, length-part, getD-part}
+use Rattle.symbols.specs.Parts.{part, length-part, getD-part}
 use Rattle.text.specs.Writer.{Appended, Outside, Apart, Regions, puts-outside, puts-other, puts-at, part-apart, appended-long}
 
 pub record Wrote (w₀ w : List ℕ) (to cap : ℕ) (out : List ℕ) : Type 0 where

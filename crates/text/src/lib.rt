@@ -1,26 +1,8 @@
 // Texts in a lent buffer, and what all stages share: how far a formula has come, the refusals, the limits of document 01.
 //
 // A stage reads a text in one region of the work buffer and writes its own to the other.
-mod classes;
-mod search;
-mod spans;
 mod writer;
 
-pub use classes::is_alnum;
-pub use classes::is_blank;
-pub use classes::is_digit;
-pub use classes::is_foreign;
-pub use classes::is_letter;
-pub use classes::is_word;
-pub use search::before;
-pub use search::contains;
-pub use search::find;
-pub use search::starts_with;
-pub use search::symbol;
-pub use spans::is_in;
-pub use spans::skip;
-pub use spans::skip_end;
-pub use spans::trim;
 pub use writer::clear;
 pub use writer::copy;
 pub use writer::pop;
@@ -71,24 +53,6 @@ pub fn number(why: Refusal) -> u64
 pub enum Progress {
     Text(usize, usize),
     Refused(Refusal),
-}
-
-// What a search answers.
-pub enum Found {
-    At(usize),
-    Nothing,
-}
-
-// The symbols from `start` up to `end`.
-pub struct Span {
-    pub start: usize,
-    pub end: usize,
-}
-
-// Symbols that are trimmed away: the blank ones, or one alone.
-pub enum Class {
-    Blank,
-    Only(u8),
 }
 
 // The finished text of `count` symbols at `to`, or number 5.

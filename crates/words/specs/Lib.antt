@@ -1,4 +1,2 @@
--- The tables of names, and the stages that apply their rows.
-pub mod Rows
-pub mod Kinds
+-- The stages that apply the tables' rows while blocks are held out.
 pub mod Outside

@@ -22,8 +22,8 @@ use Rattle.held.specs.Instances.{fineRow, fineRows, greek-fine, words-fine, gre
 use Rattle.entries.specs.Sized.{sized, StagedWithin}
 use Rattle.blocks.specs.Outside.{Extra}
 use Rattle.blocks.specs.Carried.{held-sized}
-use Rattle.words.specs.declared.Kind.the-variants.{Greek, Word}
-use Rattle.words.specs.Kinds.{ruleOf, sizedRows}
+use Rattle.replacements.specs.declared.Kind.the-variants.{Greek, Word}
+use Rattle.replacements.specs.Kinds.{ruleOf, sizedRows}
 
 -- the text is put between the marks again
 abbrev pub wrapped : Held → List ℕ → Result Held

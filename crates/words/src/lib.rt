@@ -1,31 +1,19 @@
 // Functions, operators, Greek names and words: the tables of the Rust's convert_syntax, applied row by row.
-mod rows;
 mod tables;
 
+use replacements::Kind;
 use text::Progress;
 ghost use Rattle.spec.specs.Rows.{functionMappings, operatorReplacements};
 ghost use Rattle.spec.specs.Words.{replaceRows, convertWords, convertGreekCapitals};
 ghost use Rattle.text.specs.Stage.{Ready, Answered, Staged};
 ghost use Rattle.blocks.specs.Outside.{Unmarked};
 
-// What may stand around the names of a table.
-pub enum Kind {
-    // Anything.
-    Literal,
-    // A name between letters or behind a backslash is spared.
-    Greek,
-    // A word of its own; or anything, for words with `(`, `|` or a point in them.
-    Word,
-    // A whole word.
-    Capital,
-}
-
 // `sin(`, `cos(` and so on get a backslash, wherever they stand.
 pub fn convert_functions(work: &mut [u8], text: Progress) -> Progress
     requires { ⌜ Ready (now work) text ⌝ }
     ensures { λ r. ⌜ Staged (now (work .entry)) (now (work .exit)) text r (replaceRows functionMappings) ⌝ }
 {
-    rows::apply_rows(work, text, 0, Kind::Literal, &tables::FUNCTIONS)
+    replacements::apply_rows(work, text, 0, Kind::Literal, &tables::FUNCTIONS)
 }
 
 // `>=`, `->` and so on become commands, wherever they stand.
@@ -33,7 +21,7 @@ pub fn convert_operators(work: &mut [u8], text: Progress) -> Progress
     requires { ⌜ Ready (now work) text ⌝ }
     ensures { λ r. ⌜ Staged (now (work .entry)) (now (work .exit)) text r (replaceRows operatorReplacements) ⌝ }
 {
-    rows::apply_rows(work, text, 0, Kind::Literal, &tables::OPERATORS)
+    replacements::apply_rows(work, text, 0, Kind::Literal, &tables::OPERATORS)
 }
 
 // Greek names and words, which spare `\text` and `\mathrm` blocks. Lengths count the held blocks in full.
@@ -47,8 +35,8 @@ pub fn convert_words(work: &mut [u8], text: Progress) -> Progress
     };
     let held = blocks::hold_both(work, from, n);
     let outside = Progress::Text(held.at, held.len);
-    let greek = rows::apply_rows(work, outside, held.extra, Kind::Greek, &tables::GREEK);
-    let words = rows::apply_rows(work, greek, held.extra, Kind::Word, &tables::WORDS);
+    let greek = replacements::apply_rows(work, outside, held.extra, Kind::Greek, &tables::GREEK);
+    let words = replacements::apply_rows(work, greek, held.extra, Kind::Word, &tables::WORDS);
     blocks::put_all_back(work, words, held.texts, held.used)
 }
 
@@ -57,5 +45,5 @@ pub fn convert_greek_capitals(work: &mut [u8], text: Progress) -> Progress
     requires { ⌜ Ready (now work) text ⌝ }
     ensures { λ r. ⌜ Staged (now (work .entry)) (now (work .exit)) text r convertGreekCapitals ⌝ }
 {
-    rows::apply_rows(work, text, 0, Kind::Capital, &tables::CAPITALS)
+    replacements::apply_rows(work, text, 0, Kind::Capital, &tables::CAPITALS)
 }

@@ -74,7 +74,7 @@ fn show_words(source: &[u8]) {
     let Progress::Text(at, n) = operators else {
         return;
     };
-    if held::has_mark(&work[at..at + n]) {
+    if lost_blocks::has_mark(&work[at..at + n]) {
         return;
     }
     let named = words::convert_words(&mut work, operators);
@@ -85,13 +85,13 @@ fn show_words(source: &[u8]) {
 fn show_definitions(source: &[u8], table: &[u8]) {
     let mut work = [0; 32_768];
     let loaded = load(&mut work, source);
-    if table::is_faulty(table) {
+    if table_faults::is_faulty(table) {
         return;
     }
     let Progress::Text(at, n) = loaded else {
         return;
     };
-    if held::has_mark(&work[at..at + n]) {
+    if lost_blocks::has_mark(&work[at..at + n]) {
         return;
     }
     let whole = definitions::apply_definitions_outside_text(&mut work, loaded, table);

@@ -1,5 +1,5 @@
 -- `calls_main::line` meets its contract. Assumes nothing.
-use Rattle.text.specs.Search.{finds-within}
+use Rattle.search.specs.Search.{finds-within}
 use borrow.Author.Needs.{needs}
 use native.Mathlib.Omega.{arith}
 use Rattle.calls_main.proofs.line.Statement.{statement}

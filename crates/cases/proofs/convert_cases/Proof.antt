@@ -7,7 +7,7 @@ use Prim.Native.Nat.{_+_, _-_}
 use lib.ListN.{length-take, length-drop}
 use Rattle.spec.specs.Symbols.{bytes}
 use Rattle.spec.specs.Calls.{convertCases}
-use Rattle.text.specs.Parts.{part, whole-part, length-part}
+use Rattle.symbols.specs.Parts.{part, whole-part, length-part}
 use Rattle.text.specs.Written.{appended-written}
 use Rattle.text.specs.Stage.{placed-text, placed-low, placed-fits, placed-regions, staged-same, staged-written}
 use Rattle.delimiters.specs.First.{First, Firstly}

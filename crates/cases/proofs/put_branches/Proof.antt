@@ -1,7 +1,7 @@
 -- `cases::put_branches` meets its contract. The loop's invariant: the branches before `start` have been appended. Assumes nothing.
 use Rattle.cases.specs.Cases.{Branched, Branching, branching-none, branching-blank, branching-more, branching-all, branches-read, branch-read}
 use Rattle.text.specs.Writer.{apart-part, appended-long}
-use Rattle.text.specs.Parts.{part, length-part}
+use Rattle.symbols.specs.Parts.{part, length-part}
 use lib.ListN.{length, length-take, length-drop}
 use mathlib.Core.Path.{_≡_, refl, subst}
 use Prim.Native.Nat.{_+_, _-_, _≤_, _<_}

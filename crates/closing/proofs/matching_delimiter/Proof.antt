@@ -1,7 +1,7 @@
 -- `closing::matching_delimiter` meets its contract, by the search behind its first symbol. Assumes nothing.
 use Rattle.closing.specs.Closing.{delimiter-empty, delimiter-past}
-use Rattle.text.specs.declared.Found.the-variants.{At}
-use Rattle.text.specs.Search.{Closes, closes-rest, closes-later, closes-within, closes-nothing}
+use Rattle.search.specs.declared.Found.the-variants.{At}
+use Rattle.search.specs.Search.{Closes, closes-rest, closes-later, closes-within, closes-nothing}
 use Rattle.spec.specs.Closing.{close}
 use lib.ListN.{length, drop, length-take, length-drop}
 use Prim.Native.Nat.{_+_, _<_}

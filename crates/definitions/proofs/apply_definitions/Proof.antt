@@ -8,7 +8,7 @@ use lib.ListN.{length}
 use Rattle.spec.specs.Table.{Definition, definitions}
 use Rattle.entries.specs.Sized.{remaining-ready, remaining-all}
 use Rattle.table.specs.Order.{remaining, steps-next, steps-done, steps-lies, steps-short}
-use Rattle.table.specs.Faults.{not-refused}
+use Rattle.table.specs.Sound.{not-refused}
 use Rattle.definitions.specs.Applying.{Left, left-none, left-more, left-done, next-usable}
 use Rattle.definitions.proofs.apply_definitions.Statement.{statement}
 use Rattle.definitions.proofs.apply_definitions.Tie as tie

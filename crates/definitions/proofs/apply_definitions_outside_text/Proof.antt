@@ -3,9 +3,9 @@ use mathlib.Core.Path.{ap}
 use Rattle.spec.specs.Held.{holdTexts}
 use Rattle.spec.specs.Table.{definitions, byLength}
 use Rattle.spec.specs.Definitions.{applyDefinitions, applyDefinitionsOutsideText}
-use Rattle.text.specs.Parts.{part}
+use Rattle.symbols.specs.Parts.{part}
 use Rattle.text.specs.Stage.{shown}
-use Rattle.table.specs.Faults.{not-refused}
+use Rattle.table.specs.Sound.{not-refused}
 use Rattle.blocks.specs.Outside.{holdable}
 use Rattle.blocks.specs.Carried.{back-refused, carries-staged, outside-answered}
 use Rattle.definitions.specs.Applying.{order-sound, definitions-held, definitions-kept, outside-by-held}

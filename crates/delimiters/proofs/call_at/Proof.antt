@@ -1,6 +1,6 @@
 -- `delimiters::call_at` meets its contract, by what `starts_with` and the closing search ensure. Assumes nothing.
 use Rattle.delimiters.specs.Delimiters.{called-by, called-not}
-use Rattle.text.specs.Search.{closes-rest}
+use Rattle.search.specs.Search.{closes-rest}
 use Rattle.spec.specs.Laws.Symbols.{starts-long}
 use Rattle.spec.specs.Closing.{findMatchingParen}
 use lib.ListN.{length, length-take, length-drop}

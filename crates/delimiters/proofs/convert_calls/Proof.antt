@@ -1,7 +1,7 @@
 -- `delimiters::convert_calls` meets its contract: a name that is nowhere leaves the text as it is, and else the rewritten text is judged. Assumes nothing.
 use Rattle.delimiters.specs.Delimiters.{delimited, calling-waits}
 use Rattle.text.specs.Stage.{placed-fits, placed-low, placed-regions, staged-absent, staged-written}
-use Rattle.text.specs.Parts.{part}
+use Rattle.symbols.specs.Parts.{part}
 use Rattle.text.specs.Written.{appended-written}
 use Rattle.spec.specs.Calls.{convertCalls}
 use mathlib.Core.Path.{refl}

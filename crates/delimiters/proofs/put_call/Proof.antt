@@ -1,6 +1,6 @@
 -- `delimiters::put_call` meets its contract: three appends in a row are one. Assumes nothing.
 use Rattle.text.specs.Writer.{room-left, appended-more, appended-part, appended-long}
-use Rattle.text.specs.Parts.{length-part}
+use Rattle.symbols.specs.Parts.{length-part}
 use lib.ListN.{length}
 use native.Mathlib.Omega.{arith}
 use Prim.Native.Nat.{_+_}

@@ -1,7 +1,7 @@
 -- `delimiters::rewrite_calls` meets its contract. The loop's invariant is that of a sweep, at place i. Assumes nothing.
 use Rattle.delimiters.specs.Delimiters.{delimited, call-fits, called-here, copied-here, argument-written, written-few}
 use Rattle.text.specs.Sweep.{Sweeping, sweeping-none, sweeping-all, symbols-apart, turn-room}
-use Rattle.text.specs.Parts.{part, length-part}
+use Rattle.symbols.specs.Parts.{part, length-part}
 use Rattle.spec.specs.Calls.{calling, convertCalls}
 use lib.ListN.{length, drop, length-take, length-drop}
 use mathlib.Core.Path.{_≡_, refl}

@@ -1,7 +1,7 @@
 -- `entries::rewrite` meets its contract. The loop's invariant is that of a sweep, at place i. Assumes nothing.
 use mathlib.Core.Bool.{true}
 use mathlib.Core.List.{_∷_}
-use Rattle.text.specs.Parts.{part}
+use Rattle.symbols.specs.Parts.{part}
 use Rattle.entries.specs.Bounded.{stands}
 use Prim.Native.Nat.{_+_, _-_, _≤_}
 use mathlib.Core.Path.{_≡_, refl, sym, _∙_}

@@ -2,7 +2,7 @@
 use mathlib.Core.Path.{sym, ap, ap₂, _∙_}
 use borrow.Author.Tests.{not-true, not-false}
 use Rattle.spec.specs.Symbols.{starts}
-use Rattle.text.specs.Parts.{rest-of}
+use Rattle.symbols.specs.Parts.{rest-of}
 use Rattle.entries.specs.Bounded.{allowed, stands-not, stands-met, behind-at}
 use borrow.Author.Needs.{needs}
 use Rattle.entries.proofs.stands.Statement.{statement}

@@ -1,5 +1,5 @@
 -- `fraction_lines::line` meets its contract. Assumes nothing.
-use Rattle.text.specs.Search.{finds-within}
+use Rattle.search.specs.Search.{finds-within}
 use borrow.Author.Needs.{needs}
 use native.Mathlib.Omega.{arith}
 use Rattle.fraction_lines.proofs.line.Statement.{statement}

@@ -1,7 +1,7 @@
 -- `plain_lines::line` meets its contract: what a search finds lies in the text. Assumes nothing.
 use native.Mathlib.Omega.{arith}
 use borrow.Author.Needs.{needs}
-use Rattle.text.specs.Search.{finds-within}
+use Rattle.search.specs.Search.{finds-within}
 use Rattle.plain_lines.proofs.line.Statement.{statement}
 use Rattle.plain_lines.proofs.line.Tie as tie
 

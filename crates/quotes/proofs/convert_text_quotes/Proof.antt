@@ -1,6 +1,6 @@
 -- `quotes::convert_text_quotes` meets its contract: a name that is nowhere leaves the text as it is, and else the rewritten text is judged. Assumes nothing.
-use Rattle.text.specs.Search.{finds-nothing}
-use Rattle.text.specs.Parts.{part, whole-part}
+use Rattle.search.specs.Search.{finds-nothing}
+use Rattle.symbols.specs.Parts.{part, whole-part}
 use Rattle.spec.specs.Symbols.{bytes, find}
 use mathlib.Core.Path.{refl, sym, ap, _∙_}
 use Rattle.quotes.specs.Quotes.{quotes-absent}

@@ -2,7 +2,7 @@
 use Rattle.quotes.specs.Quotes.{Quoting, ClosedAt, grownBy, ending, quoting-none, quoting-plain, quoting-open, quoting-close, quoting-done, quoting-unclosed}
 use Rattle.text.specs.Written.{wrote-read, wrote-apart}
 use Rattle.text.specs.Writer.{appended-long}
-use Rattle.text.specs.Parts.{part, whole-part, length-part}
+use Rattle.symbols.specs.Parts.{part, whole-part, length-part}
 use borrow.Author.Tests.{eq-eqb, ne-eqb}
 use lib.ListN.{length, getD, length-take, length-drop}
 use mathlib.Core.Path.{_≡_, refl, sym, ap, _∙_, subst}

@@ -1,6 +1,6 @@
 -- `rewrite::convert` meets its contract: a pattern that is nowhere leaves the text as it is, and else the rewritten text is judged. Assumes nothing.
 use Rattle.rewrite.specs.Edits.{ruleOf, rule-waits}
-use Rattle.text.specs.Parts.{part}
+use Rattle.symbols.specs.Parts.{part}
 use Rattle.text.specs.Stage.{placed-fits, placed-low, placed-regions, staged-absent, staged-written}
 use Rattle.text.specs.Written.{appended-written}
 use Rattle.spec.specs.Sweep.{sweep}

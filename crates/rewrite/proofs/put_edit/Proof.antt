@@ -1,6 +1,6 @@
 -- `rewrite::put_edit` meets its contract: three appends in a row are one. Assumes nothing.
 use Rattle.text.specs.Writer.{room-left, appended-more, appended-part, appended-long}
-use Rattle.text.specs.Parts.{length-part}
+use Rattle.symbols.specs.Parts.{length-part}
 use Prim.Native.Nat.{_+_}
 use native.Mathlib.Omega.{arith}
 use borrow.Author.Needs.{needs}

@@ -4,7 +4,7 @@ use Rattle.sizing.specs.Pieces.{sizedAt}
 use Rattle.sizing.specs.Turns.{sized-first, sized-end, kept-piece, kept-fits, kept-more, grown-fits, inner-apart, grown-more}
 use Rattle.spec.specs.Finish.{sizeDelimitersToContent}
 use Rattle.text.specs.Filling.{Filling, filling-none, filling-all}
-use Rattle.text.specs.Parts.{part, length-part}
+use Rattle.symbols.specs.Parts.{part, length-part}
 use Rattle.text.specs.Writer.{apart-part, appended-long}
 use lib.ListN.{length, drop, length-take, length-drop}
 use mathlib.Core.Path.{_≡_, refl, sym, subst}

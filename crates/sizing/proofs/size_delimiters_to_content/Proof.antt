@@ -2,7 +2,7 @@
 use Rattle.sizing.specs.Levels.{plain-of, size-plain}
 use Rattle.spec.specs.Symbols.{bytes, contains}
 use Rattle.spec.specs.Finish.{sizeDelimitersToContent}
-use Rattle.text.specs.Parts.{part, whole-part}
+use Rattle.symbols.specs.Parts.{part, whole-part}
 use Rattle.text.specs.Stage.{placed-fits, placed-low, placed-regions, staged-same, staged-written}
 use Rattle.text.specs.Written.{appended-written}
 use borrow.Author.Tests.{not-true}

@@ -1,7 +1,7 @@
 -- `words_main::show_words` meets its contract: a text in which no mark was found may be taken for words. Assumes nothing.
 use mathlib.Core.Path.{sym, ap, _∙_}
 use native.Mathlib.Omega.{arith}
-use Rattle.text.specs.Parts.{whole-part}
+use Rattle.symbols.specs.Parts.{whole-part}
 use Rattle.held.specs.Marks.{hasMark}
 use Rattle.text.specs.Stage.{answered-ready, placed-text, placed-fits}
 use borrow.Author.Needs.{needs}

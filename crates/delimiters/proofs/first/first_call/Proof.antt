@@ -1,6 +1,6 @@
 -- `delimiters::first::first_call` meets its contract, by what its two searches ensure. Assumes nothing.
 use Rattle.delimiters.specs.First.{first-not, first-unclosed, first-at}
-use Rattle.text.specs.Search.{finds-within}
+use Rattle.search.specs.Search.{finds-within}
 use lib.ListN.{length-take, length-drop}
 use native.Mathlib.Omega.{arith}
 use borrow.Author.Needs.{needs}

@@ -3,7 +3,7 @@
 use Rattle.finish.specs.Braces.{braced, braced-first, braced-end, braced-more, braced-few}
 use Rattle.spec.specs.Finish.{escapeSetBraces}
 use Rattle.text.specs.Filling.{Filling, filling-none, filling-all}
-use Rattle.text.specs.Parts.{part, length-part}
+use Rattle.symbols.specs.Parts.{part, length-part}
 use Rattle.text.specs.Writer.{appended-long}
 use lib.ListN.{length, length-take, length-drop}
 use mathlib.Core.Path.{_≡_, refl, sym, subst}

@@ -3,7 +3,7 @@ use mathlib.Core.Path.{sym}
 use native.Mathlib.Omega.{arith}
 use Prim.Native.Nat.{_≤_}
 use lib.ListN.{length, drop-of-length-le}
-use Rattle.text.specs.Parts.{rest-of}
+use Rattle.symbols.specs.Parts.{rest-of}
 use borrow.Author.Needs.{needs}
 use Rattle.formula.proofs.first_line.formula.Statement.{statement}
 use Rattle.formula.proofs.first_line.formula.Tie as tie

@@ -3,7 +3,7 @@ use Rattle.fractions.specs.Slash.{slashed-ordered}
 use Rattle.fractions.specs.Turn.{round-plain, round-stays, round-barred, round-fraction, Converting, converting-none, converting-all, converting-refused, converting-kept, converting-fraction, slice-same, symbol-read, slashed-here, fraction-here}
 use Rattle.fractions.specs.Writing.{fraction-small}
 use Rattle.spec.specs.Fractions.{slash}
-use Rattle.text.specs.Parts.{part, length-part}
+use Rattle.symbols.specs.Parts.{part, length-part}
 use Rattle.text.specs.Writer.{appended-long}
 use Prim.Native.Nat.{_-_, _*_, _≤_}
 use borrow.Author.Needs.{needs}

@@ -1,7 +1,7 @@
 -- `fractions::same::is_same` meets its contract. The loop's invariant: the symbols passed agree, and the rest decides. Assumes nothing.
 use Rattle.fractions.specs.Same.{Agree, agree-more, agree-not, agree-all}
 use Rattle.spec.specs.Symbols.{same}
-use Rattle.text.specs.Parts.{part, length-part, getD-part}
+use Rattle.symbols.specs.Parts.{part, length-part, getD-part}
 use Prim.Native.Nat.{_-_, _≤_}
 use borrow.Author.Tests.{eq-eqb, ne-eqb}
 use mathlib.Core.Bool.{cond, false}

@@ -2,7 +2,7 @@
 use Rattle.fractions.specs.Same.{sameAt}
 use Rattle.fractions.specs.Settle.{step-barred, step-same, step-changed}
 use Rattle.spec.specs.Symbols.{all}
-use Rattle.text.specs.Parts.{rest-of}
+use Rattle.symbols.specs.Parts.{rest-of}
 use Rattle.text.specs.Stage.{placed-text, placed-fits, placed-regions}
 use Prim.Native.Nat.{_-_}
 use borrow.Author.Needs.{needs}

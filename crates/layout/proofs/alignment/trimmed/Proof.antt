@@ -1,7 +1,7 @@
 -- `layout::alignment::trimmed` meets its contract, by how much trimming leaves. Assumes nothing.
 use Rattle.layout.specs.Lines.{Trimmed, trimmed-by}
 use Rattle.spec.specs.Symbols.{blank, dropWhile, dropWhileEnd}
-use Rattle.text.specs.Parts.{length-part, rest-of}
+use Rattle.symbols.specs.Parts.{length-part, rest-of}
 use lib.ListN.{length}
 use mathlib.Core.Path.{refl, sym, ap, _∙_}
 use Prim.Native.Nat.{_+_, _-_}

@@ -1,7 +1,7 @@
 -- `layout::thin::is_spacing` meets its contract, by the letters and what stands behind them. Assumes nothing.
 use Rattle.layout.specs.Thin.{argument, spacing-is}
 use Rattle.spec.specs.Finish.{atomCommands, oneOf}
-use Rattle.text.specs.Parts.{rest-of}
+use Rattle.symbols.specs.Parts.{rest-of}
 use lib.Dec.{ltb}
 use lib.ListN.{take}
 use mathlib.Core.Bool.{not, _&&_}

@@ -1,8 +1,8 @@
 -- `layout::thin::keeps_gap` meets its contract, by the last backslash. Assumes nothing.
 use Rattle.layout.specs.Thin.{gap-found, gap-none, gapIf}
 use Rattle.spec.specs.Finish.{spacing}
-use Rattle.text.specs.Parts.{rest-of}
-use Rattle.text.specs.Search.{reach}
+use Rattle.symbols.specs.Parts.{rest-of}
+use Rattle.search.specs.Search.{reach}
 use lib.ListN.{length}
 use mathlib.Core.Bool.{not}
 use mathlib.Core.Path.{sym, ap, _∙_}

@@ -1,7 +1,7 @@
 -- `operands::groups::closed_after` meets its contract, by the closing search in the rest of the text. Assumes nothing.
 use Rattle.operands.specs.Places.{nothing-ahead, closed-ahead}
 use Rattle.spec.specs.Closing.{close}
-use Rattle.text.specs.Search.{closes-nothing, closes-rest}
+use Rattle.search.specs.Search.{closes-nothing, closes-rest}
 use borrow.Author.Needs.{needs}
 use lib.ListN.{length-take, length-drop}
 use native.Mathlib.Omega.{arith}

@@ -1,6 +1,6 @@
 -- `rewrite::rules::paren_to_brace` meets its contract, by what the closing search finds. Assumes nothing.
 use Rattle.rewrite.specs.Edits.{paren-closed, paren-open}
-use Rattle.text.specs.Search.{closes-rest, closes-within}
+use Rattle.search.specs.Search.{closes-rest, closes-within}
 use Rattle.spec.specs.Laws.Symbols.{starts-long}
 use Rattle.spec.specs.Closing.{findMatchingParen}
 use lib.ListN.{length, length-drop}

@@ -1,6 +1,6 @@
 -- `rewrite::rules::wrap_text` meets its contract, by what the closing search finds. Assumes nothing.
 use Rattle.rewrite.specs.Edits.{text-closed, text-open}
-use Rattle.text.specs.Search.{closes-rest, closes-within}
+use Rattle.search.specs.Search.{closes-rest, closes-within}
 use Rattle.spec.specs.Laws.Symbols.{starts-long}
 use Rattle.spec.specs.Closing.{findMatchingBrace}
 use lib.ListN.{length, length-drop}

@@ -23,11 +23,11 @@ use Rattle.plain.proofs.readers.sum.Reads as sum
 use Rattle.plain.proofs.readers.sum.Kinds as sum-kinds
 use Rattle.plain.proofs.readers.+factor+operand+product+script+scripts+sum.Lts-sum as sum-lts
 use Rattle.plain.proofs.tokens.atom.Reads as atom-reads
-use Rattle.text.proofs.symbol.Reads as symbol-reads
+use Rattle.search.proofs.symbol.Reads as symbol-reads
 use Rattle.plain.proofs.joins.closed.Reads as closed-reads
 use Rattle.plain.proofs.tokens.factor_next.Reads as factor-next-reads
 use Rattle.plain.proofs.joins.divided.Reads as divided-reads
-use Rattle.text.proofs.is_alnum.Reads as is-alnum-reads
+use Rattle.symbols.proofs.is_alnum.Reads as is-alnum-reads
 use Rattle.plain.proofs.joins.joined.Reads as joined-reads
 use Rattle.plain.proofs.joins.leaf.Reads as leaf-reads
 use Rattle.plain.proofs.tokens.rest.Reads as rest-reads

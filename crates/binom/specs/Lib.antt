@@ -1,0 +1,2 @@
+-- What the contracts of `binom` cite.
+pub mod Binom

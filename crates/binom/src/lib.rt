@@ -1,0 +1,123 @@
+// The stage `binom`: `binom(n, k)` becomes `\binom{n}{k}`. With no comma at its top level a call is copied as ordinary text.
+use delimiters::call_at;
+use delimiters::put_call;
+use search::Found;
+use symbols::Class;
+use symbols::Span;
+use text::Progress;
+ghost use Prim.Native.Nat.{_+_, _≤_};
+ghost use lib.ListN.{length};
+ghost use Rattle.spec.specs.Result.{stage};
+ghost use Rattle.spec.specs.Calls.{convertBinom};
+ghost use Rattle.symbols.specs.Parts.{part};
+ghost use Rattle.text.specs.Writer.{Room, Appended, Apart, Regions};
+ghost use Rattle.text.specs.Stage.{Ready, Staged};
+ghost use Rattle.binom.specs.Binom.{Parted, latexBinom};
+
+// The length of `binom(`.
+const OPEN: usize = 6;
+
+// The two arguments of the call that a text begins with, trimmed, and the length of what stands inside.
+pub enum Binomial {
+    At(Span, Span, usize),
+    Nothing,
+}
+
+fn binom_at(s: &[u8]) -> Binomial
+    requires { ⌜ length (now s) ≤ 8192 ⌝ }
+    ensures { λ r. ⌜ Parted (now (s .entry)) r ⌝ }
+{
+    let Found::At(k) = call_at(s, b"binom(") else {
+        return Binomial::Nothing;
+    };
+    let end = OPEN + k;
+    let Found::At(j) = commas::find_comma_in_args(&s[OPEN..end]) else {
+        return Binomial::Nothing;
+    };
+    let comma = OPEN + j;
+    let first = symbols::trim(
+        s,
+        Span {
+            start: OPEN,
+            end: comma,
+        },
+        Class::Blank,
+    );
+    let second = symbols::trim(
+        s,
+        Span {
+            start: comma + 1,
+            end,
+        },
+        Class::Blank,
+    );
+    Binomial::At(first, second, k)
+}
+
+// Appends `\binom{`, the `m` symbols at `a`, `}{`, the `n` symbols at `b`, and `}`.
+fn put_binom(
+    work: &mut [u8],
+    to: usize,
+    count: usize,
+    a: usize,
+    m: usize,
+    b: usize,
+    n: usize,
+) -> usize
+    requires { ⌜ Room (now work) to 8192 count (m + n + 64) ⌝ }
+    requires { ⌜ (a + m ≤ length (now work)) × (b + n ≤ length (now work)) ⌝ }
+    requires { ⌜ Apart a m to 8192 × Apart b n to 8192 ⌝ }
+    ensures { λ r. ⌜ Appended (now (work .entry)) (now (work .exit)) to 8192 count r (latexBinom (part a m (now (work .entry))) (part b n (now (work .entry)))) ⌝ }
+{
+    let first = put_call(work, to, count, b"\\binom{", a, m, b"}{");
+    let second = text::copy(work, b, n, to, text::CAP, first);
+    text::put_all(work, to, text::CAP, second, b"}")
+}
+
+// Writes the `n` symbols at `from` to `to`, each binomial rewritten. The result is the finished text's length.
+fn rewrite_binoms(work: &mut [u8], from: usize, n: usize, to: usize) -> usize
+    requires { ⌜ Regions (now work) from n to 8192 0 × (n ≤ 8192) ⌝ }
+    ensures { λ r. ⌜ Appended (now (work .entry)) (now (work .exit)) to 8192 0 r (convertBinom (part from n (now (work .entry)))) ⌝ }
+{
+    let end = from + n;
+    let mut count = 0;
+    let mut i = 0;
+    while i < n {
+        let at = from + i;
+        let Binomial::At(first, second, k) = binom_at(&work[at..end]) else {
+            let b = work[at];
+            count = text::put(work, to, text::CAP, count, b);
+            i += 1;
+            continue;
+        };
+        let a = at + first.start;
+        let b = at + second.start;
+        count = put_binom(
+            work,
+            to,
+            count,
+            a,
+            first.end - first.start,
+            b,
+            second.end - second.start,
+        );
+        i += OPEN + k + 1;
+    }
+    count
+}
+
+pub fn convert_binom(work: &mut [u8], text: Progress) -> Progress
+    requires { ⌜ Ready (now work) text ⌝ }
+    ensures { λ r. ⌜ Staged (now (work .entry)) (now (work .exit)) text r (stage convertBinom) ⌝ }
+{
+    let Progress::Text(from, n) = text else {
+        return text;
+    };
+    let end = from + n;
+    let Found::At(_) = search::find(&work[from..end], b"binom(") else {
+        return text;
+    };
+    let to = text::CAP - from;
+    let count = rewrite_binoms(work, from, n, to);
+    text::finished(to, count)
+}

@@ -1,2 +1,0 @@
--- What the contracts of `calls` cite.
-pub mod Binom

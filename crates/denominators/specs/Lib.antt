@@ -1,0 +1,4 @@
+-- The laws of the searches after a slash.
+pub mod Past
+pub mod Ends
+pub mod After

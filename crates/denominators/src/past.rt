@@ -1,0 +1,116 @@
+// The blanks before a denominator, and its pieces: each search passes one, if it is there.
+use operands::is_exponent_symbol;
+use operands::is_in_operand;
+use operands::past_group;
+use search::Found;
+ghost use lib.ListN.{drop};
+ghost use Rattle.spec.specs.Symbols.{trimStart};
+ghost use Rattle.spec.specs.Fractions.{factorials, exponent, power, braces, bracket, arguments, wordAfter};
+ghost use Rattle.operands.specs.Places.{Place, Ahead, FoundAhead};
+
+pub fn skip_blanks(s: &[u8], start: usize) -> usize
+    requires { ⌜ Place (now s) start ⌝ }
+    ensures { λ r. ⌜ Ahead (now (s .entry)) start r (trimStart (drop start (now (s .entry)))) ⌝ }
+{
+    let mut i = start;
+    while i < s.len() {
+        if !symbols::is_blank(s[i]) {
+            return i;
+        }
+        i += 1;
+    }
+    i
+}
+
+pub fn past_factorials(s: &[u8], start: usize) -> usize
+    requires { ⌜ Place (now s) start ⌝ }
+    ensures { λ r. ⌜ Ahead (now (s .entry)) start r (factorials (drop start (now (s .entry)))) ⌝ }
+{
+    let mut i = start;
+    while i < s.len() {
+        if s[i] != b'!' {
+            return i;
+        }
+        i += 1;
+    }
+    i
+}
+
+// What follows a `^`: a group in braces, or one symbol.
+pub fn past_exponent(s: &[u8], start: usize) -> usize
+    requires { ⌜ Place (now s) start ⌝ }
+    ensures { λ r. ⌜ Ahead (now (s .entry)) start r (exponent (drop start (now (s .entry)))) ⌝ }
+{
+    let b = search::symbol(s, start);
+    if b == b'{' {
+        return past_group(s, start + 1, b'{', b'}');
+    }
+    if is_exponent_symbol(b) {
+        return start + 1;
+    }
+    start
+}
+
+pub fn past_power(s: &[u8], start: usize) -> usize
+    requires { ⌜ Place (now s) start ⌝ }
+    ensures { λ r. ⌜ Ahead (now (s .entry)) start r (power (drop start (now (s .entry)))) ⌝ }
+{
+    if search::symbol(s, start) == b'^' {
+        return past_exponent(s, start + 1);
+    }
+    start
+}
+
+// Groups in braces, one after the other.
+pub fn past_braces(s: &[u8], start: usize) -> usize
+    requires { ⌜ Place (now s) start ⌝ }
+    ensures { λ r. ⌜ Ahead (now (s .entry)) start r (braces 0 (drop start (now (s .entry)))) ⌝ }
+{
+    let mut i = start;
+    while search::symbol(s, i) == b'{' {
+        i = past_group(s, i + 1, b'{', b'}');
+    }
+    i
+}
+
+pub fn past_bracket(s: &[u8], start: usize) -> usize
+    requires { ⌜ Place (now s) start ⌝ }
+    ensures { λ r. ⌜ Ahead (now (s .entry)) start r (bracket (drop start (now (s .entry)))) ⌝ }
+{
+    if search::symbol(s, start) == b'[' {
+        return past_group(s, start + 1, b'[', b']');
+    }
+    start
+}
+
+// Arguments in parentheses, which only a power may have before them.
+pub fn past_arguments(s: &[u8], start: usize, raised: bool) -> Found
+    requires { ⌜ Place (now s) start ⌝ }
+    ensures { λ r. ⌜ FoundAhead (now (s .entry)) start r (arguments raised (drop start (now (s .entry)))) ⌝ }
+{
+    if search::symbol(s, start) == b'(' {
+        if raised {
+            return Found::At(past_group(s, start + 1, b'(', b')'));
+        }
+        return Found::Nothing;
+    }
+    Found::At(start)
+}
+
+// An operand with no brackets.
+pub fn word_after(s: &[u8], start: usize) -> usize
+    requires { ⌜ Place (now s) start ⌝ }
+    ensures { λ r. ⌜ Ahead (now (s .entry)) start r (wordAfter 0 (drop start (now (s .entry)))) ⌝ }
+{
+    let mut i = start;
+    let mut previous = 0;
+    while i < s.len() {
+        let b = s[i];
+        if !is_in_operand(previous, b, search::symbol(s, i + 1)) {
+            return i;
+        }
+        previous = b;
+        i += 1;
+    }
+    i
+}

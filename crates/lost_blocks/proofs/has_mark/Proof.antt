@@ -1,0 +1,73 @@
+-- `lost_blocks::has_mark` meets its contract. Assumes nothing.
+use Prim.Native.Nat.{_-_, _≤_, _<_}
+use mathlib.Core.Path.{_≡_, refl, sym, _∙_}
+use native.Mathlib.Omega.{arith}
+use lib.ListN.{length}
+use Rattle.lost_blocks.specs.Reading.{Has}
+use Rattle.lost_blocks.specs.Reading.{has-here, has-on, has-end}
+use Rattle.lost_blocks.proofs.has_mark.Statement.{statement}
+use Rattle.lost_blocks.proofs.has_mark.Tie as tie
+
+abbrev Inv-loop : tie.InvT-loop
+Inv-loop s i₀ i-end i = (i ≤ length s) × (i-end ≡ length s) × Has s i
+
+abbrev μ-loop : tie.MeasureT-loop
+μ-loop s i₀ i-end i = length s - i
+
+loop-holds : tie.Need-loop-holds Inv-loop μ-loop
+loop-holds c = (omega arith, refl, record { so-far = refl })
+
+shared-slice-read-is-mark : tie.Need-shared-slice-read-is-mark Inv-loop μ-loop
+shared-slice-read-is-mark c = omega arith
+
+is-mark-requires : tie.Need-is-mark-requires Inv-loop μ-loop
+is-mark-requires c κs = tt
+
+returns : tie.Need-returns Inv-loop μ-loop
+returns c =
+    let l = c .before .before .before .before in
+    let s = l .before .before .args .s .now in
+    let i = l .loop .i in
+    let ends = l .loop .inv .1 in
+    let more = c .before .before .before .loop-test .taken in
+    let inside : i < length s = omega arith in
+    sym (has-here s i inside (l .loop .inv .2) (sym (c .before .is-mark .ensures) ∙ c .if1 .taken))
+
+add-i : tie.Need-add-i Inv-loop μ-loop
+add-i c = omega arith
+
+loop-less : tie.Need-loop-less Inv-loop μ-loop
+loop-less c = omega arith
+
+loop-again : tie.Need-loop-again Inv-loop μ-loop
+loop-again c =
+    let l = c .before .before .before .before in
+    let s = l .before .before .args .s .now in
+    let i = l .loop .i in
+    let ends = l .loop .inv .1 in
+    let more = c .before .before .before .loop-test .taken in
+    let inside : i < length s = omega arith in
+    (omega arith, refl, has-on s i inside (l .loop .inv .2) (sym (c .before .is-mark .ensures) ∙ c .if1 .left))
+
+returns-2 : tie.Need-returns-2 Inv-loop μ-loop
+returns-2 c =
+    let l = c .before in
+    let s = l .before .before .args .s .now in
+    let ends = l .loop .inv .1 in
+    let done : length s ≤ l .loop .i = omega arith in
+    sym (has-end s (l .loop .i) done (l .loop .inv .2))
+
+pub has-mark-spec : {M : Type 1} → statement M
+has-mark-spec =
+    tie.close
+    (tie.spec
+    Inv-loop
+    μ-loop
+    loop-holds
+    shared-slice-read-is-mark
+    is-mark-requires
+    returns
+    add-i
+    loop-less
+    loop-again
+    returns-2)

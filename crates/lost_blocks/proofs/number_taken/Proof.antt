@@ -1,0 +1,237 @@
+-- `lost_blocks::number_taken` meets its contract. The invariant: the rest of the text decides. Assumes nothing.
+use Prim.Native.Nat.{_-_, _≤_}
+use mathlib.Core.Path.{refl, sym, _∙_}
+use native.Mathlib.Omega.{arith}
+use lib.ListN.{length}
+use Rattle.lost_blocks.specs.Reading.{Notes}
+use Rattle.lost_blocks.specs.Reading.{text-taken, text-passed, roman-taken, roman-passed, notes-on, notes-end}
+use Rattle.lost_blocks.proofs.number_taken.Statement.{statement}
+use Rattle.lost_blocks.proofs.number_taken.Tie as tie
+
+abbrev Inv-loop : tie.InvT-loop
+Inv-loop s texts a₀ r₀ i₀ a r i = (i ≤ length s) × Notes s texts a r i
+
+abbrev μ-loop : tie.MeasureT-loop
+μ-loop s texts a₀ r₀ i₀ a r i = length s - i
+
+loop-holds : tie.Need-loop-holds Inv-loop μ-loop
+loop-holds c = (omega arith, record { so-far = refl; a-slow = omega arith; r-slow = omega arith })
+
+shared-slice-read-b : tie.Need-shared-slice-read-b Inv-loop μ-loop
+shared-slice-read-b c = omega arith
+
+add-i : tie.Need-add-i Inv-loop μ-loop
+add-i c = omega arith
+
+sub-takes : tie.Need-sub-takes Inv-loop μ-loop
+sub-takes c = omega arith
+
+part-takes-start : tie.Need-part-takes-start Inv-loop μ-loop
+part-takes-start c = omega arith
+
+part-takes-end : tie.Need-part-takes-end Inv-loop μ-loop
+part-takes-end c = omega arith
+
+add-takes : tie.Need-add-takes Inv-loop μ-loop
+add-takes c =
+    let l = c .before .before .before .before in
+    let p = l .before .before .pre in
+    let s = l .before .before .args .s .now in
+    let i = l .loop .i in
+    let n = l .loop .inv .1 in
+    let more = c .before .before .before .loop-test .taken in
+    let a-slow = n .a-slow in
+    let r-slow = n .r-slow in
+    let short = p .0 in
+    let few = p .1 in
+    omega arith
+
+takes-requires : tie.Need-takes-requires Inv-loop μ-loop
+takes-requires c κs =
+    let l = c .before .before .before .before in
+    let p = l .before .before .pre in
+    let more = c .before .before .before .loop-test .taken in
+    let a-slow = l .loop .inv .1 .a-slow in
+    let r-slow = l .loop .inv .1 .r-slow in
+    let short = p .0 in
+    let few = p .1 in
+    omega arith
+
+returns : tie.Need-returns Inv-loop μ-loop
+returns c =
+    let l = c .before .before .before .before .before .before in
+    let p = l .before .before .pre in
+    let s = l .before .before .args .s .now in
+    let i = l .loop .i in
+    let n = l .loop .inv .1 in
+    let more = c .before .before .before .before .before .loop-test .taken in
+    let a-slow = n .a-slow in
+    let r-slow = n .r-slow in
+    let short = p .0 in
+    let few = p .1 in
+    sym (text-taken s i more n (c .before .before .before .if1 .taken) (sym (c .before .takes .ensures) ∙ c .if2 .taken))
+
+add-a : tie.Need-add-a Inv-loop μ-loop
+add-a c =
+    let l = c .before .before .before .before .before .before in
+    let p = l .before .before .pre in
+    let s = l .before .before .args .s .now in
+    let i = l .loop .i in
+    let n = l .loop .inv .1 in
+    let more = c .before .before .before .before .before .loop-test .taken in
+    let a-slow = n .a-slow in
+    let r-slow = n .r-slow in
+    let short = p .0 in
+    let few = p .1 in
+    omega arith
+
+loop-less : tie.Need-loop-less Inv-loop μ-loop
+loop-less c = omega arith
+
+loop-again : tie.Need-loop-again Inv-loop μ-loop
+loop-again c =
+    let l = c .before .before .before .before .before .before in
+    let p = l .before .before .pre in
+    let s = l .before .before .args .s .now in
+    let i = l .loop .i in
+    let n = l .loop .inv .1 in
+    let more = c .before .before .before .before .before .loop-test .taken in
+    let a-slow = n .a-slow in
+    let r-slow = n .r-slow in
+    let short = p .0 in
+    let few = p .1 in
+    (omega arith, text-passed s i more n (c .before .before .before .if1 .taken) (sym (c .before .takes .ensures) ∙ c .if2 .left))
+
+sub-takes-2 : tie.Need-sub-takes-2 Inv-loop μ-loop
+sub-takes-2 c = omega arith
+
+part-takes-start-2 : tie.Need-part-takes-start-2 Inv-loop μ-loop
+part-takes-start-2 c = omega arith
+
+part-takes-end-2 : tie.Need-part-takes-end-2 Inv-loop μ-loop
+part-takes-end-2 c = omega arith
+
+add-takes-2 : tie.Need-add-takes-2 Inv-loop μ-loop
+add-takes-2 c =
+    let l = c .before .before .before .before .before in
+    let p = l .before .before .pre in
+    let s = l .before .before .args .s .now in
+    let i = l .loop .i in
+    let n = l .loop .inv .1 in
+    let more = c .before .before .before .before .loop-test .taken in
+    let a-slow = n .a-slow in
+    let r-slow = n .r-slow in
+    let short = p .0 in
+    let few = p .1 in
+    omega arith
+
+takes-requires-2 : tie.Need-takes-requires-2 Inv-loop μ-loop
+takes-requires-2 c κs =
+    let l = c .before .before .before .before .before in
+    let p = l .before .before .pre in
+    let more = c .before .before .before .before .loop-test .taken in
+    let a-slow = l .loop .inv .1 .a-slow in
+    let r-slow = l .loop .inv .1 .r-slow in
+    let short = p .0 in
+    let few = p .1 in
+    omega arith
+
+returns-2 : tie.Need-returns-2 Inv-loop μ-loop
+returns-2 c =
+    let l = c .before .before .before .before .before .before .before in
+    let p = l .before .before .pre in
+    let s = l .before .before .args .s .now in
+    let i = l .loop .i in
+    let n = l .loop .inv .1 in
+    let more = c .before .before .before .before .before .before .loop-test .taken in
+    let a-slow = n .a-slow in
+    let r-slow = n .r-slow in
+    let short = p .0 in
+    let few = p .1 in
+    sym (roman-taken s i more n (c .before .before .before .before .if1 .left) (c .before .before .before .if3 .taken) (sym (c .before .takes2 .ensures) ∙ c .if4 .taken))
+
+add-r : tie.Need-add-r Inv-loop μ-loop
+add-r c =
+    let l = c .before .before .before .before .before .before .before in
+    let p = l .before .before .pre in
+    let s = l .before .before .args .s .now in
+    let i = l .loop .i in
+    let n = l .loop .inv .1 in
+    let more = c .before .before .before .before .before .before .loop-test .taken in
+    let a-slow = n .a-slow in
+    let r-slow = n .r-slow in
+    let short = p .0 in
+    let few = p .1 in
+    omega arith
+
+loop-less-2 : tie.Need-loop-less-2 Inv-loop μ-loop
+loop-less-2 c = omega arith
+
+loop-again-2 : tie.Need-loop-again-2 Inv-loop μ-loop
+loop-again-2 c =
+    let l = c .before .before .before .before .before .before .before in
+    let p = l .before .before .pre in
+    let s = l .before .before .args .s .now in
+    let i = l .loop .i in
+    let n = l .loop .inv .1 in
+    let more = c .before .before .before .before .before .before .loop-test .taken in
+    let a-slow = n .a-slow in
+    let r-slow = n .r-slow in
+    let short = p .0 in
+    let few = p .1 in
+    (omega arith, roman-passed s i more n (c .before .before .before .before .if1 .left) (c .before .before .before .if3 .taken) (sym (c .before .takes2 .ensures) ∙ c .if4 .left))
+
+loop-less-3 : tie.Need-loop-less-3 Inv-loop μ-loop
+loop-less-3 c = omega arith
+
+loop-again-3 : tie.Need-loop-again-3 Inv-loop μ-loop
+loop-again-3 c =
+    let l = c .before .before .before .before in
+    let p = l .before .before .pre in
+    let s = l .before .before .args .s .now in
+    let i = l .loop .i in
+    let n = l .loop .inv .1 in
+    let more = c .before .before .before .loop-test .taken in
+    let a-slow = n .a-slow in
+    let r-slow = n .r-slow in
+    let short = p .0 in
+    let few = p .1 in
+    (omega arith, notes-on s i more n (c .before .if1 .left) (c .if3 .left))
+
+returns-3 : tie.Need-returns-3 Inv-loop μ-loop
+returns-3 c =
+    let l = c .before in
+    let s = l .before .before .args .s .now in
+    let done : length s ≤ l .loop .i = omega arith in
+    sym (notes-end s (l .loop .i) done (l .loop .inv .1))
+
+pub number-taken-spec : {M : Type 1} → statement M
+number-taken-spec =
+    tie.close
+    (tie.spec
+    Inv-loop
+    μ-loop
+    loop-holds
+    shared-slice-read-b
+    add-i
+    sub-takes
+    part-takes-start
+    part-takes-end
+    add-takes
+    takes-requires
+    returns
+    add-a
+    loop-less
+    loop-again
+    sub-takes-2
+    part-takes-start-2
+    part-takes-end-2
+    add-takes-2
+    takes-requires-2
+    returns-2
+    add-r
+    loop-less-2
+    loop-again-2
+    loop-less-3
+    loop-again-3
+    returns-3)

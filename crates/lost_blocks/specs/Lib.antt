@@ -1,0 +1,2 @@
+-- The loops that read numbers and marks.
+pub mod Reading

@@ -1,0 +1,3 @@
+-- What the contracts of `lr` cite.
+pub mod Reached
+pub mod Lr

@@ -1,0 +1,120 @@
+// The stage `lr`. Of `lr(`..`)` the first symbol inside says which delimiters are written, and the last is dropped unread. A delimiter
+// that stands alone inside is number 8.
+use search::Found;
+use text::Progress;
+use text::Refusal;
+ghost use Prim.Native.Nat.{_+_, _≤_, _<_};
+ghost use mathlib.Core.Path.{_≡_};
+ghost use lib.ListN.{length};
+ghost use Rattle.spec.specs.Finish.{delimiters, sizedBy, convertLr};
+ghost use Rattle.symbols.specs.Parts.{part};
+ghost use Rattle.text.specs.Writer.{Room, Appended, Apart, Regions};
+ghost use Rattle.text.specs.Stage.{Ready, Staged};
+ghost use Rattle.delimiters.specs.Delimiters.{Called};
+ghost use Rattle.lr.specs.Lr.{lrName, isDelimiter, EndedBy};
+
+// What the loop comes to: the finished text's length, or a bare delimiter.
+pub enum Ended {
+    Length(usize),
+    Bare,
+}
+
+// The length of what stands inside the `lr(` that the text begins with.
+fn lr_at(s: &[u8]) -> Found
+    requires { ⌜ length (now s) ≤ 16384 ⌝ }
+    ensures { λ r. ⌜ Called lrName (now (s .entry)) r ⌝ }
+{
+    delimiters::call_at(s, b"lr(")
+}
+
+fn is_delimiter(b: u8) -> bool
+    ensures { λ r. ⌜ r ≡ isDelimiter b ⌝ }
+{
+    (b == b'(') | ((b == b'|') | ((b == b'[') | (b == b'{')))
+}
+
+// Appends what is written for the `k` symbols at `inside`, by their first. They lie before a closing parenthesis.
+fn put_sized(work: &mut [u8], to: usize, count: usize, first: u8, inside: usize, k: usize) -> usize
+    requires { ⌜ Room (now work) to 8192 count (k + 64) ⌝ }
+    requires { ⌜ inside + k < length (now work) ⌝ }
+    requires { ⌜ Apart inside (k + 1) to 8192 ⌝ }
+    ensures { λ r. ⌜ Appended (now (work .entry)) (now (work .exit)) to 8192 count r (sizedBy (part inside k (now (work .entry))) (delimiters first)) ⌝ }
+{
+    let middle = text::pop(k, 2);
+    if first == b'(' {
+        return delimiters::put_call(work, to, count, b"\\left(", inside + 1, middle, b"\\right)");
+    }
+    if first == b'|' {
+        return delimiters::put_call(
+            work,
+            to,
+            count,
+            b"\\left\\lvert ",
+            inside + 1,
+            middle,
+            b" \\right\\rvert",
+        );
+    }
+    if first == b'[' {
+        return delimiters::put_call(work, to, count, b"\\left[", inside + 1, middle, b"\\right]");
+    }
+    if first == b'{' {
+        return delimiters::put_call(
+            work,
+            to,
+            count,
+            b"\\left\\{",
+            inside + 1,
+            middle,
+            b"\\right\\}",
+        );
+    }
+    text::copy(work, inside, k, to, text::CAP, count)
+}
+
+// Writes the `n` symbols at `from` to `to`, each `lr(` rewritten.
+fn rewrite_lr(work: &mut [u8], from: usize, n: usize, to: usize) -> Ended
+    requires { ⌜ Regions (now work) from n to 8192 0 ⌝ }
+    ensures { λ r. ⌜ EndedBy (now (work .entry)) (now (work .exit)) from n to r ⌝ }
+{
+    let end = from + n;
+    let mut count = 0;
+    let mut i = 0;
+    while i < n {
+        let at = from + i;
+        let Found::At(k) = lr_at(&work[at..end]) else {
+            let b = work[at];
+            count = text::put(work, to, text::CAP, count, b);
+            i += 1;
+            continue;
+        };
+        let open = i + 3;
+        let inside = from + open;
+        let close = inside + k;
+        let first = search::symbol(&work[inside..close], 0);
+        if (k == 1) & is_delimiter(first) {
+            return Ended::Bare;
+        }
+        count = put_sized(work, to, count, first, inside, k);
+        i = open + k + 1;
+    }
+    Ended::Length(count)
+}
+
+pub fn convert_lr(work: &mut [u8], text: Progress) -> Progress
+    requires { ⌜ Ready (now work) text ⌝ }
+    ensures { λ r. ⌜ Staged (now (work .entry)) (now (work .exit)) text r convertLr ⌝ }
+{
+    let Progress::Text(from, n) = text else {
+        return text;
+    };
+    let end = from + n;
+    let Found::At(_) = search::find(&work[from..end], b"lr(") else {
+        return text;
+    };
+    let to = text::CAP - from;
+    let Ended::Length(count) = rewrite_lr(work, from, n, to) else {
+        return Progress::Refused(Refusal::BareDelimiter);
+    };
+    text::finished(to, count)
+}

@@ -1,0 +1,83 @@
+-- `search::find` meets its contract. The loop's invariant: the pattern is found from place i on where it is found at all. Assumes nothing.
+use Rattle.symbols.specs.Parts.{rest-of}
+use Rattle.search.specs.Search.{find-sought}
+use Rattle.spec.specs.Laws.Symbols.{find-here, find-end}
+use Rattle.spec.specs.Symbols.{starts, find}
+use lib.ListN.{length, drop, length-drop}
+use mathlib.Core.Path.{_≡_, refl, sym, ap, _∙_}
+use Prim.Native.Nat.{_-_, _≤_}
+use native.Mathlib.Omega.{arith}
+use borrow.Author.Needs.{needs}
+use Rattle.search.proofs.find.Statement.{statement}
+use Rattle.search.proofs.find.Tie as tie
+
+abbrev Inv-loop : tie.InvT-loop
+Inv-loop s pattern first i₀ i = (i ≤ length s) × (find pattern s ≡ find pattern (drop i s))
+
+abbrev μ-loop : tie.MeasureT-loop
+μ-loop s pattern first i₀ i = length s - i
+
+symbol-requires : tie.Need-symbol-requires Inv-loop μ-loop
+symbol-requires c κs = search needs
+
+loop-holds : tie.Need-loop-holds Inv-loop μ-loop
+loop-holds c = (omega arith, refl)
+
+sub-starts-with : tie.Need-sub-starts-with Inv-loop μ-loop
+sub-starts-with c = omega arith
+
+part-starts-with-start : tie.Need-part-starts-with-start Inv-loop μ-loop
+part-starts-with-start c = omega arith
+
+part-starts-with-end : tie.Need-part-starts-with-end Inv-loop μ-loop
+part-starts-with-end c = omega arith
+
+starts-with-requires : tie.Need-starts-with-requires Inv-loop μ-loop
+starts-with-requires c κs = search needs
+
+returns : tie.Need-returns Inv-loop μ-loop
+returns c =
+    let l = c .before .before .before .before in
+    let a = c .before .before .before .before .before .before .before .before .args in
+    let met = sym (c .before .starts-with .ensures ∙ ap (starts (a .pattern .now)) (rest-of (l .loop .i) (a .s .now))) ∙ c .if1 .taken in
+    record { within = omega arith; found = sym (l .loop .inv .1 ∙ find-here _ (drop (l .loop .i) (a .s .now)) (simp length-drop (omega arith)) met) }
+
+add-seek : tie.Need-add-seek Inv-loop μ-loop
+add-seek c = omega arith
+
+seek-requires : tie.Need-seek-requires Inv-loop μ-loop
+seek-requires c κs = omega arith
+
+loop-less : tie.Need-loop-less Inv-loop μ-loop
+loop-less c = let after = c .seek .ensures .after in let within = c .seek .ensures .within in omega arith
+
+loop-again : tie.Need-loop-again Inv-loop μ-loop
+loop-again c =
+    let l = c .before .before .before .before .before in
+    let a = c .before .before .before .before .before .before .before .before .before .args in
+    let other = sym (c .before .before .starts-with .ensures ∙ ap (starts (a .pattern .now)) (rest-of (l .loop .i) (a .s .now))) ∙ c .before .if1 .left in
+    (c .seek .ensures .within, l .loop .inv .1 ∙ find-sought (a .pattern .now) (a .s .now) (c .before .before .before .before .before .before .symbol .ensures) other (omega arith) (c .seek .ensures))
+
+returns-2 : tie.Need-returns-2 Inv-loop μ-loop
+returns-2 c =
+    let l = c .before in
+    record { within = omega arith; found = sym (l .loop .inv .1 ∙ find-end _ (c .before .before .before .before .before .args .s .now) (l .loop .i) (omega arith)) }
+
+pub find-spec : {M : Type 1} → statement M
+find-spec =
+    tie.close
+    (tie.spec
+    Inv-loop
+    μ-loop
+    symbol-requires
+    loop-holds
+    sub-starts-with
+    part-starts-with-start
+    part-starts-with-end
+    starts-with-requires
+    returns
+    add-seek
+    seek-requires
+    loop-less
+    loop-again
+    returns-2)

@@ -1,0 +1,104 @@
+-- `search::pass` meets its contract. The loop's invariant: the symbol does not stand from i up to k. Assumes nothing.
+use Prim.Native.Nat.{_+_, _-_}
+use mathlib.Core.Path.{_≡_, sym, ap, _∙_, subst}
+use lib.Dec.{eqb}
+use lib.ListN.{length, length-take, length-drop}
+use native.Mathlib.Omega.{arith}
+use Rattle.spec.specs.Symbols.{any}
+use Rattle.symbols.specs.Parts.{part, whole-part}
+use Rattle.search.specs.Search.{Sought, sought-none, sought-part}
+use Rattle.search.proofs.pass.Statement.{statement}
+use Rattle.search.proofs.pass.Tie as tie
+
+abbrev Inv-loop : tie.InvT-loop
+Inv-loop s i b k₀ k = Sought s i b k
+
+abbrev μ-loop : tie.MeasureT-loop
+μ-loop s i b k₀ k = length s - k
+
+loop-holds : tie.Need-loop-holds Inv-loop μ-loop
+loop-holds c = sought-none (c .before .pre)
+
+sub-loop : tie.Need-sub-loop Inv-loop μ-loop
+sub-loop c = c .loop .inv .within
+
+add-end : tie.Need-add-end Inv-loop μ-loop
+add-end c = omega arith
+
+sub-is-among : tie.Need-sub-is-among Inv-loop μ-loop
+sub-is-among c = omega arith
+
+part-is-among-start : tie.Need-part-is-among-start Inv-loop μ-loop
+part-is-among-start c = omega arith
+
+part-is-among-end : tie.Need-part-is-among-end Inv-loop μ-loop
+part-is-among-end c = let w = c .before .loop .inv .within in omega arith
+
+is-among-requires : tie.Need-is-among-requires Inv-loop μ-loop
+is-among-requires c κs = let w = c .before .before .loop .inv .within in simp (length-take, length-drop) (omega arith)
+
+returns : tie.Need-returns Inv-loop μ-loop
+returns c = c .before .before .before .before .loop .inv
+
+loop-less : tie.Need-loop-less Inv-loop μ-loop
+loop-less c = let w = c .before .before .before .before .loop .inv .within in omega arith
+
+loop-again : tie.Need-loop-again Inv-loop μ-loop
+loop-again c =
+    let a = c .before .before .before .before .before .before .args in let l = c .before .before .before .before .loop in let w = l .inv .within in
+    sought-part 8 (l .k) (l .inv) (omega arith) (omega arith) (omega arith) (ap (any (λ x. eqb x (a .b))) (sym (whole-part (l .k) 8 (a .s .now))) ∙ sym (c .before .is-among .ensures) ∙ c .if1 .left)
+
+returns-2 : tie.Need-returns-2 Inv-loop μ-loop
+returns-2 c = c .before .before .loop .inv
+
+sub-last : tie.Need-sub-last Inv-loop μ-loop
+sub-last c = omega arith
+
+sub-is-among-2 : tie.Need-sub-is-among-2 Inv-loop μ-loop
+sub-is-among-2 c = omega arith
+
+part-is-among-start-2 : tie.Need-part-is-among-start-2 Inv-loop μ-loop
+part-is-among-start-2 c = omega arith
+
+part-is-among-end-2 : tie.Need-part-is-among-end-2 Inv-loop μ-loop
+part-is-among-end-2 c = omega arith
+
+is-among-requires-2 : tie.Need-is-among-requires-2 Inv-loop μ-loop
+is-among-requires-2 c κs = simp (length-take, length-drop) (omega arith)
+
+returns-3 : tie.Need-returns-3 Inv-loop μ-loop
+returns-3 c = c .before .before .before .before .before .loop .inv
+
+returns-4 : tie.Need-returns-4 Inv-loop μ-loop
+returns-4 c =
+    let a = c .before .before .before .before .before .before .before .args in let l = c .before .before .before .before .before .loop in let w = l .inv .within in
+    let long : length (a .s .now) - 8 + 8 ≡ length (a .s .now) = omega arith in
+    let eight : length (a .s .now) - (length (a .s .now) - 8) ≡ 8 = omega arith in
+    subst (Sought (a .s .now) (a .i) (a .b)) long
+    (sought-part 8 (length (a .s .now) - 8) (l .inv) (omega arith) (omega arith) (omega arith)
+    (ap (λ n. any (λ x. eqb x (a .b)) (part (length (a .s .now) - 8) n (a .s .now))) (sym eight) ∙ sym (c .before .is-among2 .ensures) ∙ c .if3 .left))
+
+pub pass-spec : {M : Type 1} → statement M
+pass-spec =
+    tie.close
+    (tie.spec
+    Inv-loop
+    μ-loop
+    loop-holds
+    sub-loop
+    add-end
+    sub-is-among
+    part-is-among-start
+    part-is-among-end
+    is-among-requires
+    returns
+    loop-less
+    loop-again
+    returns-2
+    sub-last
+    sub-is-among-2
+    part-is-among-start-2
+    part-is-among-end-2
+    is-among-requires-2
+    returns-3
+    returns-4)

@@ -1,0 +1,2 @@
+-- What the contracts of `search` and of the crates above it cite.
+pub mod Search

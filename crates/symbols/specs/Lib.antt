@@ -1,0 +1,3 @@
+-- What the contracts of `symbols` and of the crates above it cite.
+pub mod Parts
+pub mod Trim

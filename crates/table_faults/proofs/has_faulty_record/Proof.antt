@@ -1,0 +1,77 @@
+-- `table_faults::has_faulty_record` meets its contract. The loop's invariant: the records from `at` on decide. Assumes nothing.
+use Rattle.table.specs.Reading.{definitionAt}
+use Rattle.table.specs.Listed.{listed, Heads, heads}
+use Rattle.table_faults.specs.Faults.{faulty-cons}
+use Rattle.table.proofs.Tags.{listed-none}
+use Rattle.spec.specs.Table.{faulty}
+use lib.ListN.{length}
+use mathlib.Core.Bool.{Bool, _||_}
+use mathlib.Core.Path.{_≡_, refl, sym, ap, _∙_}
+use Prim.Native.Nat.{_-_}
+use native.Mathlib.Omega.{arith}
+use borrow.Author.Needs.{needs}
+use Rattle.table_faults.proofs.has_faulty_record.Statement.{statement}
+use Rattle.table_faults.proofs.has_faulty_record.Tie as tie
+
+abbrev Inv-loop : tie.InvT-loop
+Inv-loop table at₀ at = faulty (listed table 0) ≡ faulty (listed table at)
+
+abbrev μ-loop : tie.MeasureT-loop
+μ-loop table at₀ at = length table - at
+
+loop-holds : tie.Need-loop-holds Inv-loop μ-loop
+loop-holds c = refl
+
+record-at-requires : tie.Need-record-at-requires Inv-loop μ-loop
+record-at-requires c κs = search needs
+
+enum-known-found : tie.Need-enum-known-found Inv-loop μ-loop
+enum-known-found c = search needs
+
+returns : tie.Need-returns Inv-loop μ-loop
+unfolding faulty
+returns c = sym (c .before .before .loop .inv ∙ ap faulty (listed-none (c .before .record-at .ensures) (c .match .keys2)))
+
+-- what is known where a record has been read
+here : (c : tie.After-known-told Inv-loop μ-loop)
+    → Heads (c .before .before .before .before .before .before .args .table .now) (c .before .before .before .before .loop .at) (c .before .found .given .0 .0)
+here c = heads (c .before .before .before .record-at .ensures) (c .before .found .given .1)
+
+is-faulty-record-requires : tie.Need-is-faulty-record-requires Inv-loop μ-loop
+is-faulty-record-requires c κs = here c .lies
+
+-- the record that has been read decides, if it is faulty, and else those behind it
+decides : (c : tie.After-is-faulty-record Inv-loop μ-loop) (t : Bool) → c .is-faulty-record .result ≡ t
+    → faulty (listed (c .before .before .before .before .before .before .before .args .table .now) 0)
+    ≡ (t || faulty (listed (c .before .before .before .before .before .before .before .args .table .now) (c .before .before .found .given .0 .0 .next)))
+decides c t e =
+    let s = c .before .before .before .before .before .before .before .args .table .now in
+    let found = c .before .before .found .given .0 .0 in
+    c .before .before .before .before .before .loop .inv
+    ∙ ap faulty (here (c .before) .first)
+    ∙ faulty-cons (definitionAt s found) (listed s (found .next))
+    ∙ ap (λ u. u || faulty (listed s (found .next))) (sym (c .is-faulty-record .ensures) ∙ e)
+
+returns-2 : tie.Need-returns-2 Inv-loop μ-loop
+returns-2 c = sym (decides (c .before) _ (c .if1 .taken))
+
+loop-less : tie.Need-loop-less Inv-loop μ-loop
+loop-less c = let h = here (c .before .before) in let b = h .behind in let p = h .lies in omega arith
+
+loop-again : tie.Need-loop-again Inv-loop μ-loop
+loop-again c = decides (c .before) _ (c .if1 .left)
+
+pub has-faulty-record-spec : {M : Type 1} → statement M
+has-faulty-record-spec =
+    tie.close
+    (tie.spec
+    Inv-loop
+    μ-loop
+    loop-holds
+    record-at-requires
+    enum-known-found
+    returns
+    is-faulty-record-requires
+    returns-2
+    loop-less
+    loop-again)

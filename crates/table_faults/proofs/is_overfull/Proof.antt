@@ -1,0 +1,85 @@
+-- `table_faults::is_overfull` meets its contract. The loop's invariant: the records from `at` on decide, with those counted. Assumes nothing.
+use Rattle.table_faults.specs.Faults.{overfull, overfull-whole, overfull-end, overfull-past, overfull-many}
+use Rattle.table.specs.Listed.{heads}
+use Rattle.spec.specs.Table.{records}
+use lib.ListN.{length, drop}
+use mathlib.Core.Path.{_≡_, refl, sym, _∙_}
+use Prim.Native.Nat.{_-_}
+use native.Mathlib.Omega.{arith}
+use borrow.Author.Needs.{needs}
+use Rattle.table_faults.proofs.is_overfull.Statement.{statement}
+use Rattle.table_faults.proofs.is_overfull.Tie as tie
+
+abbrev Inv-loop : tie.InvT-loop
+Inv-loop table at₀ count₀ at count = overfull 0 (records table) ≡ overfull count (records (drop at table))
+
+abbrev μ-loop : tie.MeasureT-loop
+μ-loop table at₀ count₀ at count = length table - at
+
+loop-holds : tie.Need-loop-holds Inv-loop μ-loop
+loop-holds c = refl
+
+record-at-requires : tie.Need-record-at-requires Inv-loop μ-loop
+record-at-requires c κs = search needs
+
+enum-known-found : tie.Need-enum-known-found Inv-loop μ-loop
+enum-known-found c = search needs
+
+add-count : tie.Need-add-count Inv-loop μ-loop
+add-count c = omega arith
+
+loop-less : tie.Need-loop-less Inv-loop μ-loop
+loop-less c =
+    let call = c .before .before .before in
+    let h = heads (call .record-at .ensures) (c .before .found .given .1) in let b = h .behind in let p = h .lies in
+    omega arith
+
+loop-again : tie.Need-loop-again Inv-loop μ-loop
+loop-again c =
+    let call = c .before .before .before in
+    let l = call .before .before in
+    let read = sym (call .record-at .ensures .read) ∙ c .before .found .given .1 in
+    l .loop .inv ∙ overfull-whole (l .before .before .args .table .now) (l .loop .at) (l .loop .count) read
+
+enum-told : tie.Need-enum-told Inv-loop μ-loop
+enum-told c = search needs
+
+returns : tie.Need-returns Inv-loop μ-loop
+returns c =
+    let call = c .before .before in
+    let l = call .before .before in
+    let read = sym (call .record-at .ensures .read) ∙ c .enum-told .given .1 in
+    sym (l .loop .inv ∙ overfull-end (l .before .before .args .table .now) (l .loop .at) (l .loop .count) (omega arith) read)
+
+enum-told-2 : tie.Need-enum-told-2 Inv-loop μ-loop
+enum-told-2 c = search needs
+
+returns-2 : tie.Need-returns-2 Inv-loop μ-loop
+returns-2 c =
+    let call = c .before .before in
+    let l = call .before .before in
+    let read = sym (call .record-at .ensures .read) ∙ c .enum-told2 .given .1 in
+    sym (l .loop .inv ∙ overfull-past (l .before .before .args .table .now) (l .loop .at) (l .loop .count) read)
+
+returns-3 : tie.Need-returns-3 Inv-loop μ-loop
+returns-3 c =
+    let l = c .before in
+    sym (l .loop .inv ∙ overfull-many (l .before .before .args .table .now) (l .loop .at) (l .loop .count) (omega arith))
+
+pub is-overfull-spec : {M : Type 1} → statement M
+is-overfull-spec =
+    tie.close
+    (tie.spec
+    Inv-loop
+    μ-loop
+    loop-holds
+    record-at-requires
+    enum-known-found
+    add-count
+    loop-less
+    loop-again
+    enum-told
+    returns
+    enum-told-2
+    returns-2
+    returns-3)

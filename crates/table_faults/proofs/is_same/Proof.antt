@@ -1,0 +1,21 @@
+-- `table_faults::is_same` meets its contract. Assumes nothing.
+use Rattle.table_faults.specs.Faults.{same-other, same-starts}
+use mathlib.Core.Path.{sym, _∙_}
+use native.Mathlib.Omega.{arith}
+use borrow.Author.Needs.{needs}
+use Rattle.table_faults.proofs.is_same.Statement.{statement}
+use Rattle.table_faults.proofs.is_same.Tie as tie
+
+returns : tie.Need-returns
+returns c = let a = c .before .before .before .args in sym (same-other (a .a .now) (a .b .now) (λ e. omega arith))
+
+starts-with-requires : tie.Need-starts-with-requires
+starts-with-requires c κs = search needs
+
+returns-2 : tie.Need-returns-2
+returns-2 c =
+    let a = c .before .before .before .before .args in
+    c .starts-with .ensures ∙ sym (same-starts (a .a .now) (a .b .now) (omega arith))
+
+pub is-same-spec : {M : Type 1} → statement M
+is-same-spec = tie.close (tie.spec returns starts-with-requires returns-2)

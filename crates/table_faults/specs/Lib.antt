@@ -1,0 +1,2 @@
+-- What the contracts of `table_faults` cite.
+pub mod Faults
