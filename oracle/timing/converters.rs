@@ -7,7 +7,9 @@ use std::hint::black_box;
 use std::panic::{catch_unwind, AssertUnwindSafe};
 
 /// Repetitions of which the fastest counts; the three take turns.
-const TURNS: usize = 7;
+pub const TURNS: usize = 7;
+/// Of the typical formulas, which are short and have a target each.
+pub const TYPICAL_TURNS: usize = 21;
 /// A turn has as many calls as fit in so many seconds.
 const TURN: f64 = 0.004;
 /// Where one call of the Rust takes longer than this, two turns more are enough.
@@ -78,7 +80,7 @@ impl Converters {
     }
 
     /// None where the Rust panics.
-    pub fn times(&mut self, formula: &str) -> Option<Times> {
+    pub fn times(&mut self, turns: usize, formula: &str) -> Option<Times> {
         let refused = self.compared(formula)?;
         let calls = |once: f64| (TURN / once).clamp(1.0, 2_000.0) as u32;
         let mut best = Times {
@@ -87,11 +89,10 @@ impl Converters {
             as_is: self.time_as_is(1, formula),
             refused,
         };
-        let (ours, kept, as_is) = (calls(best.ours), calls(best.kept), calls(best.as_is));
-        for _ in 0..if best.as_is > LONG_CALL { 2 } else { TURNS } {
-            best.ours = best.ours.min(self.time_ours(ours, formula));
-            best.kept = best.kept.min(self.time_kept(kept, formula));
-            best.as_is = best.as_is.min(self.time_as_is(as_is, formula));
+        for _ in 0..if best.as_is > LONG_CALL { 2 } else { turns } {
+            best.ours = best.ours.min(self.time_ours(calls(best.ours), formula));
+            best.kept = best.kept.min(self.time_kept(calls(best.kept), formula));
+            best.as_is = best.as_is.min(self.time_as_is(calls(best.as_is), formula));
         }
         Some(best)
     }

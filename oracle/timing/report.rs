@@ -1,6 +1,6 @@
 //! The tables.
 
-use super::converters::{Converters, Times};
+use super::converters::{Converters, Times, TURNS, TYPICAL_TURNS};
 use super::families::{families, Shape, LENGTHS, TYPICAL};
 use super::search;
 use std::fmt::Write;
@@ -34,7 +34,7 @@ impl Report {
         let mut all = Vec::new();
         for formula in TYPICAL {
             assert!((10..=80).contains(&formula.len()), "{formula} has {} bytes", formula.len());
-            let times = converters.times(formula).expect("the Rust takes the formula");
+            let times = converters.times(TYPICAL_TURNS, formula).expect("the Rust takes the formula");
             assert_eq!(times.refused, 0, "{formula} is refused");
             self.line(&format!("| `{formula}` | {} | {} |", formula.len(), cells(times)));
             all.push(times);
@@ -61,7 +61,7 @@ impl Report {
         self.line("| family | text | 16 | 64 | 256 | 1,024 | 4,096 | answer | kept, least times | as it is, least times | kept | as it is |");
         self.line("|---|---|---|---|---|---|---|---|---|---|---|---|");
         for (family, shape) in families() {
-            let all: Vec<Times> = LENGTHS.iter().filter_map(|&bytes| converters.times(&shape.text(bytes))).collect();
+            let all: Vec<Times> = LENGTHS.iter().filter_map(|&bytes| converters.times(TURNS, &shape.text(bytes))).collect();
             assert_eq!(all.len(), LENGTHS.len(), "the Rust panics on {family}");
             let mut line = format!("| {} | {} |", family.replace('|', "\\|"), shape.shown());
             for times in &all {
@@ -111,7 +111,7 @@ impl Report {
         let refused = converters.refused(&text);
         let cells = match refused {
             number if number > 0 && for_ours => format!("{} | {number} | | ", ms(ours)),
-            number => match converters.times(&text) {
+            number => match converters.times(TURNS, &text) {
                 Some(t) => format!("{} | {} | {} | {}", ms(t.ours), answer(number), ms(t.kept), ms(t.as_is)),
                 None => format!("{} | {number} | panics | panics", ms(ours)),
             },

@@ -1,21 +1,23 @@
--- The bytes that occur in a text, and patterns that are nowhere since one of their bytes does not occur.
---     Seen, SeenIn    a table with 1 at each byte that occurs in a text, or in a formula on its way
+-- The neighbours in a text, and patterns that are nowhere since two of their neighbours are none in the text.
+--     paired, pairs   the number of two neighbours, which some pairs share; those of a text
+--     Seen, SeenIn    a table with 1 at the number of each pair in a text, or in a formula on its way
 --     Seeing          the same of the symbols up to a place
---     missing         whether a byte of the pattern has no 1
+--     missing         whether a pair of the pattern has no 1
 --     nowhere         whether a pattern does not occur in a formula on its way
 -- Assumes nothing.
 use mathlib.Core.Path.{_≡_, refl, sym, ap, _∙_, subst}
 use mathlib.Core.Bool.{Bool, true, false, not, _&&_, _||_, and-false, false≢true}
 use mathlib.Core.List.{List, [], _∷_}
 use mathlib.Core.Option.{Option, none, some}
-use Prim.Native.Nat.{ℕ, _+_, _-_, _≤_, _<_}
+use Prim.Native.Nat.{ℕ, _+_, _-_, _*_, _≤_, _<_}
+use native.Mathlib.Omega.{arith}
 use lib.Dec.{eqb}
-use lib.ListN.{length, getD, set, drop}
+use lib.ListN.{length, getD, set, drop, length-drop}
 use lib.Seq.{getD-set-same, getD-set-other}
-use borrow.Author.Tests.{eqb-true, eqb-false, eq-eqb}
+use borrow.Author.Tests.{eqb-true, eqb-false, eq-eqb, ne-eqb}
 use Rattle.spec.specs.Symbols.{any, starts, find, contains}
 use Rattle.spec.specs.Sweep.{Rule, sweep}
-use Rattle.spec.specs.Laws.Symbols.{any-more, any-end, find-past}
+use Rattle.spec.specs.Laws.Symbols.{drop-step, find-past}
 use Rattle.spec.specs.Laws.Sweep.{Waits}
 use Rattle.symbols.specs.Parts.{part, whole-part}
 use Rattle.search.specs.Search.{isSome, contains-find}
@@ -25,38 +27,86 @@ use Rattle.text.specs.declared.Progress.{Progress}
 use Rattle.text.specs.declared.Progress.the-variants.{Text, Refused}
 use Rattle.entries.specs.Sized.{Within, Applied, applied-nowhere, applied-refused}
 
+abbrev pub paired : ℕ → ℕ → ℕ
+paired a b = 2 * a + b
+
+-- the numbers of a text's neighbours, in order
+abbrev pub pairs : List ℕ → List ℕ
+pairs [] = []
+pairs (x ∷ []) = []
+pairs (x ∷ y ∷ s) = paired x y ∷ pairs (y ∷ s)
+
 abbrev pub occurs : ℕ → List ℕ → Bool
-occurs b s = any (eqb b) s
+occurs k s = any (eqb k) (pairs s)
 
 pub record Seen (table s : List ℕ) : Type 0 where
-  pub marked : (b : ℕ) → occurs b s ≡ true → getD table b 0 ≡ 1
+  pub marked : (k : ℕ) → occurs k s ≡ true → getD table k 0 ≡ 1
 
 -- of a refused formula nothing is asked
 pub record SeenIn (table w : List ℕ) (p : Progress) : Type 0 where
   pub text : (at n : ℕ) → p ≡ Text at n → Seen table (part at n w)
 
 abbrev pub missing : List ℕ → List ℕ → Bool
-missing table pattern = any (λ b. eqb (getD table b 0) 0) pattern
+missing table pattern = any (λ k. eqb (getD table k 0) 0) (pairs pattern)
 
--- ---- going through the text
-pub record Seeing (table s : List ℕ) (i : ℕ) : Type 0 where
-  pub marked : (b : ℕ) → occurs b s ≡ true → occurs b (drop i s) ≡ false → getD table b 0 ≡ 1
+-- ---- going through a text: at place i, the pairs up to its symbol before have been seen
+module _ (s : List ℕ) (i : ℕ) where
+  pub pairs-next : 1 ≤ i → i < length s → pairs (drop (i - 1) s) ≡ paired (getD s (i - 1) 0) (getD s i 0) ∷ pairs (drop i s)
+  pairs-next l h =
+      let e : i - 1 + 1 ≡ i = omega arith in
+      ap pairs (drop-step s (i - 1) (omega arith) ∙ ap (λ m. getD s (i - 1) 0 ∷ drop m s) e ∙ ap (λ t. getD s (i - 1) 0 ∷ t) (drop-step s i h))
+      ∙ ap (λ t. paired (getD s (i - 1) 0) (getD s i 0) ∷ pairs t) (sym (drop-step s i h))
 
-pub seeing-none : (table s : List ℕ) → Seeing table s 0
-seeing-none table s = record { marked = λ b e f. absurd (false≢true (sym f ∙ e)) }
-
-module _ {table s : List ℕ} {i : ℕ} (r : Seeing table s i) where
-  pub seeing-more : i < length s → getD s i 0 < length table → Seeing (set table (getD s i 0) 1) s (i + 1)
-  seeing-more h l = record { marked = λ b e f. go b e f (eqb b (getD s i 0)) refl }
+  pub pairs-end : 1 ≤ i → length s ≤ i → pairs (drop (i - 1) s) ≡ []
+  pairs-end l h = go (drop (i - 1) s) (simp length-drop (omega arith))
     where
-      go : (b : ℕ) → occurs b s ≡ true → occurs b (drop (i + 1) s) ≡ false → (t : Bool) → eqb b (getD s i 0) ≡ t → getD (set table (getD s i 0) 1) b 0 ≡ 1
-      go b e f true same = ap (λ k. getD (set table (getD s i 0) 1) k 0) (eqb-true b (getD s i 0) same) ∙ getD-set-same table (getD s i 0) 1 0 l
-      go b e f false other =
-          getD-set-other table (getD s i 0) b 1 0 (eqb-false b (getD s i 0) other)
-          ∙ r .marked b e (any-more (eqb b) s i h other ∙ f)
+      go : (t : List ℕ) → length t ≤ 1 → pairs t ≡ []
+      go [] h = refl
+      go (x ∷ []) h = refl
+      go (x ∷ y ∷ t) h = absurd (omega arith)
 
-  pub seeing-all : length s ≤ i → Seen table s
-  seeing-all h = record { marked = λ b e. r .marked b e (any-end (eqb b) s i h) }
+pub record Seeing (table s : List ℕ) (i : ℕ) : Type 0 where
+  pub marked : (k : ℕ) → occurs k s ≡ true → occurs k (drop (i - 1) s) ≡ false → getD table k 0 ≡ 1
+
+pub seeing-none : (table s : List ℕ) → Seeing table s 1
+seeing-none table s = record { marked = λ k e f. absurd (false≢true (sym f ∙ e)) }
+
+pub seeing-more :
+    {table s : List ℕ} {i : ℕ} (k : ℕ) → Seeing table s i → 1 ≤ i → i < length s → k ≡ paired (getD s (i - 1) 0) (getD s i 0) → k < length table
+    → Seeing (set table k 1) s (i + 1)
+seeing-more {table} {s} {i} k r first h p l = record { marked = λ b e f. go b e f (eqb b k) refl }
+  where
+    here : i + 1 - 1 ≡ i
+    here = omega arith
+
+    go : (b : ℕ) → occurs b s ≡ true → occurs b (drop (i + 1 - 1) s) ≡ false → (t : Bool) → eqb b k ≡ t → getD (set table k 1) b 0 ≡ 1
+    go b e f true same = ap (λ j. getD (set table k 1) j 0) (eqb-true b k same) ∙ getD-set-same table k 1 0 l
+    go b e f false other =
+        getD-set-other table k b 1 0 (eqb-false b k other)
+        ∙ r .marked b e
+        (ap (any (eqb b)) (pairs-next s i first h) ∙ ap (λ t. t || occurs b (drop i s)) (ap (eqb b) (sym p) ∙ other) ∙ ap (λ m. occurs b (drop m s)) (sym here) ∙ f)
+
+pub seeing-all : {table s : List ℕ} {i : ℕ} → Seeing table s i → 1 ≤ i → length s ≤ i → Seen table s
+seeing-all {s = s} {i} r first h = record { marked = λ b e. r .marked b e (ap (any (eqb b)) (pairs-end s i first h)) }
+
+-- the same of the pattern
+module _ (table pattern : List ℕ) (i : ℕ) (first : 1 ≤ i) where
+  pub missing-here : (k : ℕ) → i < length pattern → k ≡ paired (getD pattern (i - 1) 0) (getD pattern i 0) → getD table k 0 ≡ 0 → missing table (drop (i - 1) pattern) ≡ true
+  missing-here k h p e =
+      ap (any (λ j. eqb (getD table j 0) 0)) (pairs-next pattern i first h)
+      ∙ ap (λ t. t || missing table (drop i pattern)) (ap (λ j. eqb (getD table j 0) 0) (sym p) ∙ eq-eqb (getD table k 0) 0 e)
+
+  pub missing-later :
+      (k : ℕ) → i < length pattern → k ≡ paired (getD pattern (i - 1) 0) (getD pattern i 0) → (getD table k 0 ≡ 0 → ⊥)
+      → missing table (drop (i - 1) pattern) ≡ missing table (drop (i + 1 - 1) pattern)
+  missing-later k h p e =
+      let here : i ≡ i + 1 - 1 = omega arith in
+      ap (any (λ j. eqb (getD table j 0) 0)) (pairs-next pattern i first h)
+      ∙ ap (λ t. t || missing table (drop i pattern)) (ap (λ j. eqb (getD table j 0) 0) (sym p) ∙ ne-eqb (getD table k 0) 0 e)
+      ∙ ap (λ m. missing table (drop m pattern)) here
+
+  pub missing-end : length pattern ≤ i → missing table (drop (i - 1) pattern) ≡ false
+  missing-end h = ap (any (λ j. eqb (getD table j 0) 0)) (pairs-end pattern i first h)
 
 -- ---- of a formula on its way
 abbrev place : Progress → List ℕ → List ℕ
@@ -74,9 +124,10 @@ pub seen-text : {table w : List ℕ} {p : Progress} {from n : ℕ} → p ≡ Tex
 seen-text {table} {w} {from = from} {n} e seen =
     record { text = λ at m f. subst (Seen table) (whole-part from n w ∙ ap (λ p. place p w) (sym e ∙ f)) seen }
 
--- ---- a pattern with a byte that does not occur
+-- ---- a pattern with a pair that does not occur
 later : {table s : List ℕ} {x : ℕ} → Seen table (x ∷ s) → Seen table s
-later {x = x} r = record { marked = λ b e. r .marked b (go (eqb b x) e) }
+later {s = []} r = record { marked = λ k e. absurd (false≢true e) }
+later {s = y ∷ s} {x} r = record { marked = λ k e. r .marked k (go (eqb k (paired x y)) e) }
   where
     go : (t : Bool) {u : Bool} → u ≡ true → (t || u) ≡ true
     go true e = refl
@@ -84,15 +135,23 @@ later {x = x} r = record { marked = λ b e. r .marked b (go (eqb b x) e) }
 
 starts-missing : (table pattern s : List ℕ) → Seen table s → missing table pattern ≡ true → starts pattern s ≡ false
 starts-missing table [] s r e = absurd (false≢true e)
-starts-missing table (k ∷ w) [] r e = refl
-starts-missing table (k ∷ w) (x ∷ s) r e = go (starts-missing table w s (later r)) (eqb x k) refl
+starts-missing table (k ∷ []) s r e = absurd (false≢true e)
+starts-missing table (k ∷ l ∷ w) [] r e = refl
+starts-missing table (k ∷ l ∷ w) (x ∷ []) r e = refl
+starts-missing table (k ∷ l ∷ w) (x ∷ y ∷ s) r e = go (starts-missing table (l ∷ w) (y ∷ s) (later r)) (eqb x k) refl (eqb y l) refl
   where
-    here : eqb x k ≡ true → getD table k 0 ≡ 1
-    here same = r .marked k (ap (λ t. t || occurs k s) (eq-eqb k x (sym (eqb-true x k same))))
+    here : eqb x k ≡ true → eqb y l ≡ true → getD table (paired k l) 0 ≡ 1
+    here same next =
+        r .marked (paired k l)
+        (ap (λ t. t || occurs (paired k l) (y ∷ s)) (eq-eqb (paired k l) (paired x y) (sym (ap (λ z. paired z y) (eqb-true x k same) ∙ ap (paired k) (eqb-true y l next)))))
 
-    go : (missing table w ≡ true → starts w s ≡ false) → (t : Bool) → eqb x k ≡ t → (starts w s && eqb x k) ≡ false
-    go further true same = ap (λ t. t && eqb x k) (further (sym (ap (λ m. eqb m 0 || missing table w) (here same)) ∙ e))
-    go further false other = ap (λ t. starts w s && t) other ∙ and-false (starts w s)
+    go :
+        (missing table (l ∷ w) ≡ true → starts (l ∷ w) (y ∷ s) ≡ false)
+        → (t : Bool) → eqb x k ≡ t → (u : Bool) → eqb y l ≡ u
+        → (starts (l ∷ w) (y ∷ s) && eqb x k) ≡ false
+    go further true same true next = ap (λ t. t && eqb x k) (further (sym (ap (λ m. eqb m 0 || missing table (l ∷ w)) (here same next)) ∙ e))
+    go further true same false other = ap (λ t. (starts w s && t) && eqb x k) other ∙ ap (λ t. t && eqb x k) (and-false (starts w s))
+    go further false same u next = ap (λ t. starts (l ∷ w) (y ∷ s) && t) same ∙ and-false (starts (l ∷ w) (y ∷ s))
 
 pub find-missing : (table pattern s : List ℕ) → Seen table s → missing table pattern ≡ true → find pattern s ≡ none
 unfolding find

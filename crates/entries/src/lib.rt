@@ -7,7 +7,7 @@ mod presence;
 
 pub use bounds::Bounds;
 pub use presence::is_nowhere;
-pub use presence::seen;
+pub use presence::mark;
 use search::Found;
 use text::Progress;
 use text::Refusal;

@@ -1,48 +1,57 @@
-// The bytes that occur in a text. A pattern with a byte that does not is known to be nowhere, and costs no search.
+// The symbols that are neighbours in a text, each pair as a number. A pattern with a pair that does not occur is known to be nowhere,
+// and costs no search.
 use text::Progress;
 ghost use mathlib.Core.Path.{_≡_};
+ghost use lib.ListN.{length};
 ghost use Rattle.text.specs.Stage.{Ready};
-ghost use Rattle.entries.specs.Seen.{Seen, SeenIn, missing, nowhere};
+ghost use Rattle.entries.specs.Seen.{paired, Seen, SeenIn, missing, nowhere};
 
-// 1 for each byte that occurs.
-fn seen_bytes(s: &[u8]) -> [u8; 256]
-    ensures { λ r. ⌜ Seen r (now (s .entry)) ⌝ }
+// The number of two neighbours. Some pairs share one.
+fn pair(a: u8, b: u8) -> usize
+    ensures { λ r. ⌜ r ≡ paired a b ⌝ }
 {
-    let mut seen = [0; 256];
-    for i in 0..s.len() {
-        let b = s[i] as usize;
-        seen[b] = 1;
+    2 * (a as usize) + (b as usize)
+}
+
+// Marks each pair that occurs with 1. What was marked before stays.
+fn mark_pairs(seen: &mut [u8; 768], s: &[u8])
+    requires { ⌜ length (now seen) ≡ 768 ⌝ }
+    ensures { λ _. ⌜ (length (now (seen .exit)) ≡ 768) × Seen (now (seen .exit)) (now (s .entry)) ⌝ }
+{
+    for i in 1..s.len() {
+        let k = pair(s[i - 1], s[i]);
+        seen[k] = 1;
     }
-    seen
 }
 
 // The same of a formula on its way. Of a refused one nothing is asked.
-pub fn seen(work: &[u8], text: Progress) -> [u8; 256]
+pub fn mark(seen: &mut [u8; 768], work: &[u8], text: Progress)
+    requires { ⌜ length (now seen) ≡ 768 ⌝ }
     requires { ⌜ Ready (now work) text ⌝ }
-    ensures { λ r. ⌜ SeenIn r (now (work .entry)) text ⌝ }
+    ensures { λ _. ⌜ (length (now (seen .exit)) ≡ 768) × SeenIn (now (seen .exit)) (now (work .entry)) text ⌝ }
 {
     let Progress::Text(from, n) = text else {
-        return [0; 256];
+        return;
     };
     let end = from + n;
-    seen_bytes(&work[from..end])
+    mark_pairs(seen, &work[from..end]);
 }
 
-// Whether a byte of the pattern does not occur.
-fn is_missing(seen: &[u8; 256], pattern: &[u8]) -> bool
+// Whether a pair of the pattern does not occur.
+fn is_missing(seen: &[u8; 768], pattern: &[u8]) -> bool
     ensures { λ r. ⌜ r ≡ missing (now (seen .entry)) (now (pattern .entry)) ⌝ }
 {
-    for i in 0..pattern.len() {
-        let b = pattern[i] as usize;
-        if seen[b] == 0 {
+    for i in 1..pattern.len() {
+        let k = pair(pattern[i - 1], pattern[i]);
+        if seen[k] == 0 {
             return true;
         }
     }
     false
 }
 
-// Whether the pattern is nowhere in a formula on its way. A byte of it that does not occur spares the search.
-pub fn is_nowhere(work: &[u8], text: Progress, seen: &[u8; 256], pattern: &[u8]) -> bool
+// Whether the pattern is nowhere in a formula on its way. A pair of it that does not occur spares the search.
+pub fn is_nowhere(work: &[u8], text: Progress, seen: &[u8; 768], pattern: &[u8]) -> bool
     requires { ⌜ Ready (now work) text ⌝ }
     requires { ⌜ SeenIn (now seen) (now work) text ⌝ }
     ensures { λ r. ⌜ r ≡ nowhere text (now (work .entry)) (now (pattern .entry)) ⌝ }

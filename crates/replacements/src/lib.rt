@@ -69,7 +69,7 @@ fn end_of(table: &[u8], at: usize) -> usize
 }
 
 // Whether row k's name is nowhere in the text.
-fn is_row_nowhere(work: &[u8], text: Progress, seen: &[u8; 256], table: &[u8], k: usize) -> bool
+fn is_row_nowhere(work: &[u8], text: Progress, seen: &[u8; 768], table: &[u8], k: usize) -> bool
     requires { ⌜ Ready (now work) text ⌝ }
     requires { ⌜ SeenIn (now seen) (now work) text ⌝ }
     requires { ⌜ fairRow (now table) k ≡ true ⌝ }
@@ -112,7 +112,7 @@ fn apply_row(
     )
 }
 
-// Applies a table's rows in order, each a stage of its own. A row whose name is nowhere is passed over, so the bytes that occur stay known.
+// Applies a table's rows in order, each a stage of its own. A row whose name is nowhere is passed over, so the pairs that occur stay known.
 pub fn apply_rows(
     work: &mut [u8],
     text: Progress,
@@ -127,7 +127,8 @@ pub fn apply_rows(
 {
     let rows = table.len() / ROW;
     let mut done = text;
-    let mut seen = entries::seen(work, done);
+    let mut seen = [0; 768];
+    entries::mark(&mut seen, work, done);
     let mut k = 0;
     while k < rows {
         if is_row_nowhere(work, done, &seen, table, k) {
@@ -135,7 +136,7 @@ pub fn apply_rows(
             continue;
         }
         done = apply_row(work, done, extra, kind, table, k);
-        seen = entries::seen(work, done);
+        entries::mark(&mut seen, work, done);
         k += 1;
     }
     done

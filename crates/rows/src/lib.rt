@@ -7,11 +7,11 @@ ghost use Rattle.spec.specs.Grammar.{greekName, greekNames};
 ghost use Rattle.rows.specs.Named.{isName, isNamed};
 
 // Bytes of a row: a name, and zeros up to the width.
-pub const WIDTH: usize = 8;
+const WIDTH: usize = 8;
 
-pub const GREEK_ROWS: usize = 30;
+const GREEK_ROWS: usize = 30;
 
-pub const GREEK: [u8; 240] = *b"\
+const GREEK: [u8; 240] = *b"\
     epsilon\0\
     Lambda\0\0\
     lambda\0\0\
@@ -43,7 +43,7 @@ pub const GREEK: [u8; 240] = *b"\
     nu\0\0\0\0\0\0\
     mu\0\0\0\0\0\0";
 
-pub const GREEK_LENGTHS: [usize; 30] = [
+const GREEK_LENGTHS: [usize; 30] = [
     7,
     6,
     6,
@@ -77,7 +77,7 @@ pub const GREEK_LENGTHS: [usize; 30] = [
 ];
 
 // The length of a row's name.
-pub fn greek_length(row: usize) -> usize
+fn greek_length(row: usize) -> usize
     requires { ⌜ row < 30 ⌝ }
     ensures { λ r. ⌜ r ≡ length (greekName row) ⌝ }
 {
@@ -85,7 +85,7 @@ pub fn greek_length(row: usize) -> usize
 }
 
 // Whether the text begins with a row's name.
-pub fn starts_with_greek(s: &[u8], row: usize) -> bool
+fn starts_with_greek(s: &[u8], row: usize) -> bool
     requires { ⌜ row < 30 ⌝ }
     ensures { λ r. ⌜ r ≡ starts (greekName row) (now (s .entry)) ⌝ }
 {

@@ -17,19 +17,22 @@ Inv-loop work₀ extra kind table rows done₀ seen₀ k₀ work done seen k =
     (length work ≡ length work₀)
     × Remaining work₀ work done₀ done extra (sizedRows extra (ruleOf kind) (rowsFrom table 0 (length table / 36 - 0))) (sizedRows extra (ruleOf kind) (rowsFrom table k (length table / 36 - k)))
     × SeenIn seen work done
+    × (length seen ≡ 768)
 
 abbrev μ-loop : tie.MeasureT-loop
 μ-loop work₀ extra kind table rows done₀ seen₀ k₀ work done seen k = length table / 36 - k
 
-seen-requires : tie.Need-seen-requires Inv-loop μ-loop
-seen-requires c κs = c .before .before .before .pre .0
+mark-requires : tie.Need-mark-requires Inv-loop μ-loop
+mark-requires c κs = (refl, c .before .before .before .before .pre .0)
 
 loop-holds : tie.Need-loop-holds Inv-loop μ-loop
-loop-holds c = let s = c .before .before .before .before in (refl, remaining-none _ (s .pre .0) (s .pre .1 .0), c .seen .ensures)
+loop-holds c =
+    let s = c .before .before .before .before .before in
+    (refl, remaining-none _ (s .pre .0) (s .pre .1 .0), c .mark .ensures .1, c .mark .ensures .0)
 
 is-row-nowhere-requires : tie.Need-is-row-nowhere-requires Inv-loop μ-loop
 is-row-nowhere-requires c κs =
-    let s = c .before .before .before .before .before .before .before .before in let l = c .before .before .before .loop in
+    let s = c .before .before .before .before .before .before .before .before .before in let l = c .before .before .before .loop in
     (remaining-ready (l .inv .1) (s .pre .0), (l .inv .2, fair-at (s .args .table .now) (l .k) (s .pre .1 .1) (c .before .before .loop-test .taken)))
 
 add-k : tie.Need-add-k Inv-loop μ-loop
@@ -40,42 +43,42 @@ loop-less c = let h = c .before .before .before .before .loop-test .taken in ome
 
 loop-again : tie.Need-loop-again Inv-loop μ-loop
 loop-again c =
-    let s = c .before .before .before .before .before .before .before .before .before .before in let a = s .args in let l = c .before .before .before .before .before .loop in
+    let s = c .before .before .before .before .before .before .before .before .before .before .before in let a = s .args in let l = c .before .before .before .before .before .loop in
     let rule = ruleOf (a .kind) in let table = a .table .now in
     let rest = sizedRows (a .extra) rule (rowsFrom table (l .k + 1) (length table / 36 - (l .k + 1))) in
     let passed = row-nowhere (a .kind) (rowAt table (l .k)) (a .extra) (remaining-ready (l .inv .1) (s .pre .0)) (l .inv .1 .within) (sym (c .before .is-row-nowhere .ensures) ∙ c .if1 .taken) in
-    (l .inv .0, remaining-more (l .inv .1) rest passed (λ t. rows-step (a .extra) rule table (l .k) (length table / 36) t (c .before .before .before .before .loop-test .taken)), l .inv .2)
+    (l .inv .0, remaining-more (l .inv .1) rest passed (λ t. rows-step (a .extra) rule table (l .k) (length table / 36) t (c .before .before .before .before .loop-test .taken)), l .inv .2, l .inv .3)
 
 apply-row-requires : tie.Need-apply-row-requires Inv-loop μ-loop
 apply-row-requires c κs =
-    let s = c .before .before .before .before .before .before .before .before .before .before .before in let l = c .before .before .before .before .before .before .loop in
+    let s = c .before .before .before .before .before .before .before .before .before .before .before .before in let l = c .before .before .before .before .before .before .loop in
     (remaining-ready (l .inv .1) (s .pre .0), (l .inv .1 .within, fair-at (s .args .table .now) (l .k) (s .pre .1 .1) (c .before .before .before .before .before .loop-test .taken)))
 
-seen-requires-2 : tie.Need-seen-requires-2 Inv-loop μ-loop
-seen-requires-2 c κs =
-    let l = c .before .before .before .before .before .before .before .before .before .before .loop in
-    answered-ready (remaining-ready (l .inv .1) (c .before .before .before .before .before .before .before .before .before .before .before .before .before .before .before .pre .0)) (c .before .before .before .apply-row .ensures .staged .answered)
+mark-requires-2 : tie.Need-mark-requires-2 Inv-loop μ-loop
+mark-requires-2 c κs =
+    let l = c .before .before .before .before .before .before .before .before .before .before .before .loop in
+    (l .inv .3, answered-ready (remaining-ready (l .inv .1) (c .before .before .before .before .before .before .before .before .before .before .before .before .before .before .before .before .before .pre .0)) (c .before .before .before .before .apply-row .ensures .staged .answered))
 
 add-k-2 : tie.Need-add-k-2 Inv-loop μ-loop
-add-k-2 c = let h = c .before .before .before .before .before .before .before .before .before .before .loop-test .taken in omega arith
+add-k-2 c = let h = c .before .before .before .before .before .before .before .before .before .before .before .loop-test .taken in omega arith
 
 loop-less-2 : tie.Need-loop-less-2 Inv-loop μ-loop
-loop-less-2 c = let h = c .before .before .before .before .before .before .before .before .before .before .loop-test .taken in omega arith
+loop-less-2 c = let h = c .before .before .before .before .before .before .before .before .before .before .before .loop-test .taken in omega arith
 
 loop-again-2 : tie.Need-loop-again-2 Inv-loop μ-loop
 loop-again-2 c =
-    let s = c .before .before .before .before .before .before .before .before .before .before .before .before .before .before .before .before in let a = s .args in let l = c .before .before .before .before .before .before .before .before .before .before .before .loop in
+    let s = c .before .before .before .before .before .before .before .before .before .before .before .before .before .before .before .before .before .before in let a = s .args in let l = c .before .before .before .before .before .before .before .before .before .before .before .before .loop in
     let rule = ruleOf (a .kind) in let table = a .table .now in
     let rest = sizedRows (a .extra) rule (rowsFrom table (l .k + 1) (length table / 36 - (l .k + 1))) in
-    let e = c .before .before .before .before .apply-row .ensures in
-    (e .staged .answered .long ∙ l .inv .0, remaining-more (l .inv .1) rest e (λ t. rows-step (a .extra) rule table (l .k) (length table / 36) t (c .before .before .before .before .before .before .before .before .before .before .loop-test .taken)), c .seen3 .ensures)
+    let e = c .before .before .before .before .before .apply-row .ensures in
+    (e .staged .answered .long ∙ l .inv .0, remaining-more (l .inv .1) rest e (λ t. rows-step (a .extra) rule table (l .k) (length table / 36) t (c .before .before .before .before .before .before .before .before .before .before .before .loop-test .taken)), c .mark2 .ensures .1, c .mark2 .ensures .0)
 
 same-length : tie.Need-same-length Inv-loop μ-loop
 same-length c = c .before .loop .inv .0
 
 returns : tie.Need-returns Inv-loop μ-loop
 returns c =
-    let a = c .before .before .before .before .before .before .args in let l = c .before .loop in
+    let a = c .before .before .before .before .before .before .before .args in let l = c .before .loop in
     let rule = ruleOf (a .kind) in let table = a .table .now in
     let r = remaining-all (l .inv .1) (λ s. rows-end (a .extra) rule table (l .k) (length table / 36) s (omega arith)) in
     record { staged = staged-alike (sizedRows (a .extra) rule (rowsOf table)) (λ s. ap (λ rs. sizedRows (a .extra) rule rs s) (rows-all table)) (r .staged); within = r .within }
@@ -86,14 +89,14 @@ apply-rows-spec =
     (tie.spec
     Inv-loop
     μ-loop
-    seen-requires
+    mark-requires
     loop-holds
     is-row-nowhere-requires
     add-k
     loop-less
     loop-again
     apply-row-requires
-    seen-requires-2
+    mark-requires-2
     add-k-2
     loop-less-2
     loop-again-2

@@ -1,22 +1,14 @@
--- `entries::presence::is_missing` meets its contract. The loop's invariant: the bytes from i on decide. Assumes nothing.
-use Prim.Native.Nat.{ℕ, _-_, _≤_, _<_}
-use mathlib.Core.Path.{_≡_, refl, sym, ap, _∙_}
-use mathlib.Core.Bool.{Bool}
-use mathlib.Core.List.{List}
+-- `entries::presence::is_missing` meets its contract. The loop's invariant: the pairs from i on decide. Assumes nothing.
+use Prim.Native.Nat.{_-_, _≤_, _<_}
+use mathlib.Core.Path.{_≡_, refl, sym, _∙_}
 use native.Mathlib.Omega.{arith}
-use lib.Dec.{eqb}
-use lib.ListN.{length, getD, drop}
-use borrow.Author.Tests.{eq-eqb, ne-eqb}
-use Rattle.spec.specs.Laws.Symbols.{any-more, any-stop, any-end}
-use Rattle.entries.specs.Seen.{missing}
+use lib.ListN.{length, drop}
+use Rattle.entries.specs.Seen.{missing, missing-here, missing-later, missing-end}
 use Rattle.entries.proofs.presence.is_missing.Statement.{statement}
 use Rattle.entries.proofs.presence.is_missing.Tie as tie
 
-abbrev unseen : List ℕ → ℕ → Bool
-unseen seen b = eqb (getD seen b 0) 0
-
 abbrev Inv-loop : tie.InvT-loop
-Inv-loop seen pattern i₀ i-end i = (i ≤ length pattern) × (i-end ≡ length pattern) × (missing seen (drop i pattern) ≡ missing seen pattern)
+Inv-loop seen pattern i₀ i-end i = (1 ≤ i) × (i-end ≡ length pattern) × (missing seen (drop (i - 1) pattern) ≡ missing seen pattern)
 
 abbrev μ-loop : tie.MeasureT-loop
 μ-loop seen pattern i₀ i-end i = length pattern - i
@@ -24,20 +16,25 @@ abbrev μ-loop : tie.MeasureT-loop
 loop-holds : tie.Need-loop-holds Inv-loop μ-loop
 loop-holds c = (omega arith, refl, refl)
 
-shared-slice-read-b : tie.Need-shared-slice-read-b Inv-loop μ-loop
-shared-slice-read-b c = omega arith
+sub-pair : tie.Need-sub-pair Inv-loop μ-loop
+sub-pair c = c .before .loop .inv .0
 
-cast-b : tie.Need-cast-b Inv-loop μ-loop
-cast-b c = let b = c .shared-slice-known .given (c .before .before .loop .i) in omega arith
+shared-slice-read-pair : tie.Need-shared-slice-read-pair Inv-loop μ-loop
+shared-slice-read-pair c = omega arith
+
+shared-slice-read-pair-2 : tie.Need-shared-slice-read-pair-2 Inv-loop μ-loop
+shared-slice-read-pair-2 c = omega arith
+
+pair-requires : tie.Need-pair-requires Inv-loop μ-loop
+pair-requires c κs = tt
 
 element-copy-out-if1 : tie.Need-element-copy-out-if1 Inv-loop μ-loop
-element-copy-out-if1 c = let b = c .shared-slice-known .given (c .before .before .loop .i) in omega arith
+element-copy-out-if1 c = let l = c .before .before .before .before .loop in let a = c .before .shared-slice-known3 .given (l .i - 1) in let b = c .before .shared-slice-known3 .given (l .i) in let p = c .pair .ensures in omega arith
 
 returns : tie.Need-returns Inv-loop μ-loop
 returns c =
-    let at = c .before .before .before .before .loop in
-    let a = c .before .before .before .before .before .args in
-    sym (any-stop (unseen (a .seen .now)) (a .pattern .now) (at .i) (omega arith) (eq-eqb _ 0 (c .if1 .taken))) ∙ at .inv .2
+    let l = c .before .before .before .before .before .before .loop in let a = c .before .before .before .before .before .before .before .before .args in
+    sym (missing-here (a .seen .now) (a .pattern .now) (l .i) (l .inv .0) (c .before .before .pair .result) (omega arith) (c .before .before .pair .ensures) (c .if1 .taken)) ∙ l .inv .2
 
 add-i : tie.Need-add-i Inv-loop μ-loop
 add-i c = omega arith
@@ -47,14 +44,13 @@ loop-less c = omega arith
 
 loop-again : tie.Need-loop-again Inv-loop μ-loop
 loop-again c =
-    let at = c .before .before .before .before .loop in
-    let a = c .before .before .before .before .before .args in
-    (omega arith, refl, sym (any-more (unseen (a .seen .now)) (a .pattern .now) (at .i) (omega arith) (ne-eqb _ 0 (c .if1 .left))) ∙ at .inv .2)
+    let l = c .before .before .before .before .before .before .loop in let a = c .before .before .before .before .before .before .before .before .args in
+    (omega arith, refl, sym (missing-later (a .seen .now) (a .pattern .now) (l .i) (l .inv .0) (c .before .before .pair .result) (omega arith) (c .before .before .pair .ensures) (c .if1 .left)) ∙ l .inv .2)
 
 returns-2 : tie.Need-returns-2 Inv-loop μ-loop
 returns-2 c =
-    let a = c .before .before .args in
-    sym (any-end (unseen (a .seen .now)) (a .pattern .now) (c .before .loop .i) (omega arith)) ∙ c .before .loop .inv .2
+    let l = c .before .loop in let a = c .before .before .before .args in
+    sym (missing-end (a .seen .now) (a .pattern .now) (l .i) (l .inv .0) (omega arith)) ∙ l .inv .2
 
 pub is-missing-spec : {M : Type 1} → statement M
 is-missing-spec =
@@ -63,8 +59,10 @@ is-missing-spec =
     Inv-loop
     μ-loop
     loop-holds
-    shared-slice-read-b
-    cast-b
+    sub-pair
+    shared-slice-read-pair
+    shared-slice-read-pair-2
+    pair-requires
     element-copy-out-if1
     returns
     add-i
