@@ -1,4 +1,5 @@
-//! The library against the judge, call by call: the answer, the count, the bytes, and what both buffers hold afterwards.
+//! The library against the judge, call by call: the answer, the count, the bytes, and what both buffers hold afterwards. What is
+//! accepted goes through the unchanged `typst_to_latex` as a whole too.
 
 use super::cases::{hex, Recorded};
 use super::definitions::in_order;
@@ -11,9 +12,6 @@ use std::sync::OnceLock;
 
 /// Bytes before and behind each buffer, which no call may touch.
 const MARGIN: usize = 64;
-
-/// One accepted case in so many is also given to the unchanged `typst_to_latex` as a whole, which is slow.
-const WHOLE_ONCE_IN: u64 = 256;
 
 /// No case has a longer buffer.
 const LONGEST: usize = 1 << 16;
@@ -138,7 +136,7 @@ impl Findings {
         self.by_family[usize::from(family)] += 1;
         let library = called(&case, index as usize);
         let mut same = library.as_ref() == Ok(&answer);
-        if same && answer.number() == 0 && index % WHOLE_ONCE_IN == 0 {
+        if same && answer.number() == 0 {
             if let Some(latex) = whole(&case) {
                 self.whole += 1;
                 same = latex == answer.bytes();
