@@ -65,7 +65,7 @@ fn apply_definitions_outside_text(work: &mut [u8], text: Progress, table: &[u8])
 }
 
 // Only on display.
-pub fn convert_fractions(work: &mut [u8], text: Progress, display: bool) -> Progress
+fn convert_fractions(work: &mut [u8], text: Progress, display: bool) -> Progress
     requires { ⌜ Ready (now work) text ⌝ }
     ensures { λ r. ⌜ Staged (now (work .entry)) (now (work .exit)) text r (onDisplay display convertFractions) ⌝ }
 {
