@@ -41,7 +41,7 @@ judge generate SEED N                N generated cases as such lines
 judge crosscheck SEED N [FILE]       judges N generated cases and all recorded ones against the unchanged functions
 judge short [FILE]                   makes the list of short plain formulas (default crates/short_formulas/stdout): says
                                      that the file is the same, or writes it
-judge stages < LINES                 each line by one stage or closing search, as the program calls_main answers it
+judge stages < LINES                 each line by one function of the Rust, as the program stage_lines answers it
 judge compare SEED N                 the library against the judge; only as oracle/trial builds it
 judge plain SEED N                   the library's plain check against another parser; only as oracle/trial builds it";
 

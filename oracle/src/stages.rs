@@ -1,18 +1,20 @@
-//! The stages from `op` to the quotes, and the closing searches, each by itself on lines of standard input: what the program
-//! `calls_main` has to write. A line that begins with `#` is a heading, and begins the next section.
+//! Functions of the Rust, each by itself, on lines of standard input: what the program `stage_lines` has to write. A line that
+//! begins with `#` is a heading, and begins the next section. The byte 01 stands for the solidus mark.
 
 use super::super as rust;
+use super::judge::{Stages, Trouble, STAGE_SYMBOLS};
+use super::{fractions, grammar, words};
 use std::io::BufRead;
 
 pub fn stages() -> bool {
     let mut section = 0;
     for line in std::io::stdin().lock().lines() {
-        let line = line.expect("a line of text");
+        let line = line.expect("a line of text").replace('\u{1}', rust::LITERAL_SOLIDUS);
         if line.starts_with('#') {
             section += 1;
             println!("{line}");
         } else {
-            println!("{}", answer(section, &line));
+            println!("{}", answer(section, &line).replace(rust::LITERAL_SOLIDUS, "\u{1}"));
         }
     }
     true
@@ -29,13 +31,28 @@ fn answer(section: usize, s: &str) -> String {
         7 => rust::convert_upright(s),
         8 => rust::convert_floor_ceil_abs(s),
         9 => rust::convert_text_quotes(s),
-        10 => place(rust::find_matching_paren(s)),
-        11 => place(rust::find_matching_brace(s)),
-        12 => place(rust::matching_delimiter(s, 0, '(', ')')),
-        13 => place(rust::find_comma_in_args(s)),
-        14 => place(rust::find_unescaped_comma(s)),
-        _ => rust::split_top_level_commas(s)[0].len().to_string(),
+        10 => rust::convert_sqrt(s),
+        11 => rust::convert_greek_capitals(s),
+        12 => rust::convert_subscripts(s),
+        13 => rust::convert_superscripts(s),
+        14 => text_or_refusal(fractions::convert_fractions(s, &mut Stages::new(STAGE_SYMBOLS))),
+        15 => rust::escape_set_braces(s),
+        16 => text_or_refusal(words::refuse_bare_delimiter(s).map(|()| rust::convert_lr(s))),
+        17 => rust::size_delimiters_to_content(s),
+        18 => rust::convert_alignment(s),
+        19 => rust::drop_thin_space_after_commands(s),
+        20 => place(rust::find_matching_paren(s)),
+        21 => place(rust::find_matching_brace(s)),
+        22 => place(rust::matching_delimiter(s, 0, '(', ')')),
+        23 => place(rust::find_comma_in_args(s)),
+        24 => place(rust::find_unescaped_comma(s)),
+        25 => rust::split_top_level_commas(s)[0].len().to_string(),
+        _ => grammar::parse(s).map_or("no".into(), |sum| sum.atoms().to_string()),
     }
+}
+
+fn text_or_refusal(converted: Result<String, Trouble>) -> String {
+    converted.unwrap_or_else(|trouble| format!("refused {}", trouble.number))
 }
 
 fn place(found: Option<usize>) -> String {

@@ -172,7 +172,7 @@ fn convert_paren_to_brace(input: &str, prefix: &str) -> String {
 
 /// Number 8, by the walk of `convert_lr`: a call that it reaches and whose inside is one opening delimiter alone. The slice
 /// `inner[1..inner.len() - 1]` of the Rust has no meaning there.
-fn refuse_bare_delimiter(input: &str) -> Result<(), Trouble> {
+pub fn refuse_bare_delimiter(input: &str) -> Result<(), Trouble> {
     let mut i = 0;
     while i < input.len() {
         if input[i..].starts_with("lr(") {

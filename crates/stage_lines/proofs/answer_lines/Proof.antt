@@ -1,11 +1,11 @@
--- `calls_main::answer_lines` ends: each turn passes a line. Assumes nothing.
+-- `stage_lines::answer_lines` ends: each turn passes a line. Assumes nothing.
 use Prim.Native.Nat.{_-_, _≤_}
 use borrow.Author.Needs.{needs}
 use lib.ListN.{length, length-take, length-drop}
 use mathlib.Core.Logic.{⊎-elim}
 use native.Mathlib.Omega.{arith}
-use Rattle.calls_main.proofs.answer_lines.Statement.{statement}
-use Rattle.calls_main.proofs.answer_lines.Tie as tie
+use Rattle.stage_lines.proofs.answer_lines.Statement.{statement}
+use Rattle.stage_lines.proofs.answer_lines.Tie as tie
 
 abbrev Inv-loop : tie.InvT-loop
 Inv-loop s section₀ start₀ t5 section start = (section ≤ start) × (start ≤ length s)
@@ -49,12 +49,6 @@ part-write-all-end c = omega (arith, simp (length-take, length-drop) at (c .befo
 write-all-requires : tie.Need-write-all-requires Inv-loop μ-loop
 write-all-requires c κs = search needs
 
-slice-aggregate-write-all : tie.Need-slice-aggregate-write-all Inv-loop μ-loop
-slice-aggregate-write-all c = search needs
-
-write-all-requires-2 : tie.Need-write-all-requires-2 Inv-loop μ-loop
-write-all-requires-2 c κs = search needs
-
 sub-answer : tie.Need-sub-answer Inv-loop μ-loop
 sub-answer c = omega arith
 
@@ -67,6 +61,12 @@ part-answer-end c = omega (arith, simp (length-take, length-drop) at (c .before 
 answer-requires : tie.Need-answer-requires Inv-loop μ-loop
 answer-requires c κs = search needs
 
+slice-aggregate-write-all : tie.Need-slice-aggregate-write-all Inv-loop μ-loop
+slice-aggregate-write-all c = search needs
+
+write-all-requires-2 : tie.Need-write-all-requires-2 Inv-loop μ-loop
+write-all-requires-2 c κs = search needs
+
 returns : tie.Need-returns Inv-loop μ-loop
 returns c = search needs
 
@@ -77,7 +77,7 @@ loop-less : tie.Need-loop-less Inv-loop μ-loop
 loop-less c = omega arith
 
 loop-again : tie.Need-loop-again Inv-loop μ-loop
-loop-again c = (⊎-elim (λ w. omega arith) (λ w. omega arith) (c .before .if1 .came), omega arith)
+loop-again c = (⊎-elim (λ w. omega arith) (λ w. omega arith) (c .before .before .before .if1 .came), omega arith)
 
 returns-2 : tie.Need-returns-2 Inv-loop μ-loop
 returns-2 c = search needs
@@ -100,12 +100,12 @@ answer-lines-spec =
     part-write-all-start
     part-write-all-end
     write-all-requires
-    slice-aggregate-write-all
-    write-all-requires-2
     sub-answer
     part-answer-start
     part-answer-end
     answer-requires
+    slice-aggregate-write-all
+    write-all-requires-2
     returns
     add-start
     loop-less

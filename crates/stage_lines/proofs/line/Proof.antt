@@ -1,9 +1,9 @@
--- `calls_main::line` meets its contract. Assumes nothing.
+-- `stage_lines::line` meets its contract. Assumes nothing.
 use Rattle.search.specs.Search.{finds-within}
 use borrow.Author.Needs.{needs}
 use native.Mathlib.Omega.{arith}
-use Rattle.calls_main.proofs.line.Statement.{statement}
-use Rattle.calls_main.proofs.line.Tie as tie
+use Rattle.stage_lines.proofs.line.Statement.{statement}
+use Rattle.stage_lines.proofs.line.Tie as tie
 
 slice-aggregate-find : tie.Need-slice-aggregate-find
 slice-aggregate-find c = search needs
