@@ -1,4 +1,4 @@
-//! The three converters on one text, display on and no definitions.
+//! The three converters on one text, display on and no definitions; and the floor, what any call has to do: clear the work buffer.
 
 use super::clock::seconds;
 use crate::{as_is, kept};
@@ -6,7 +6,7 @@ use std::collections::HashMap;
 use std::hint::black_box;
 use std::panic::{catch_unwind, AssertUnwindSafe};
 
-/// Repetitions of which the fastest counts; the three take turns.
+/// Repetitions of which the fastest counts; the three and the floor take turns.
 pub const TURNS: usize = 7;
 /// Of the typical formulas, which are short and have a target each.
 pub const TYPICAL_TURNS: usize = 21;
@@ -27,9 +27,10 @@ impl Default for Converters {
     }
 }
 
-/// Seconds of a call, and the number of the library's refusal, or 0.
+/// Seconds of a call and of clearing the work buffer, and the number of the library's refusal, or 0.
 #[derive(Clone, Copy)]
 pub struct Times {
+    pub floor: f64,
     pub ours: f64,
     pub kept: f64,
     pub as_is: f64,
@@ -65,6 +66,10 @@ impl Converters {
         as_is.map(|_| ours.map_or_else(jistranu::Refusal::number, |_| 0))
     }
 
+    pub fn time_floor(&mut self, calls: u32) -> f64 {
+        seconds(calls, || black_box(&mut self.work).fill(0))
+    }
+
     pub fn time_ours(&mut self, calls: u32, formula: &str) -> f64 {
         seconds(calls, || {
             let _ = black_box(self.ours(black_box(formula)));
@@ -84,12 +89,14 @@ impl Converters {
         let refused = self.compared(formula)?;
         let calls = |once: f64| (TURN / once).clamp(1.0, 2_000.0) as u32;
         let mut best = Times {
+            floor: self.time_floor(1),
             ours: self.time_ours(1, formula),
             kept: self.time_kept(1, formula),
             as_is: self.time_as_is(1, formula),
             refused,
         };
         for _ in 0..if best.as_is > LONG_CALL { 2 } else { turns } {
+            best.floor = best.floor.min(self.time_floor(calls(best.floor)));
             best.ours = best.ours.min(self.time_ours(calls(best.ours), formula));
             best.kept = best.kept.min(self.time_kept(calls(best.kept), formula));
             best.as_is = best.as_is.min(self.time_as_is(calls(best.as_is), formula));

@@ -28,9 +28,10 @@ impl Report {
 
     pub fn typical(&mut self, converters: &mut Converters) {
         self.line("### Typical formulas\n");
-        self.line("Microseconds of a call, and how many times as long the Rust takes.\n");
-        self.line("| formula | bytes | Jistranu | kept | as it is | kept, times | as it is, times |");
-        self.line("|---|---|---|---|---|---|---|");
+        self.line("Microseconds of a call and of the floor; how many times the floor Jistranu takes, and how many times as long as");
+        self.line("Jistranu the Rust.\n");
+        self.line("| formula | bytes | floor | Jistranu | kept | as it is | floors | kept, times | as it is, times |");
+        self.line("|---|---|---|---|---|---|---|---|---|");
         let mut all = Vec::new();
         for formula in TYPICAL {
             assert!((10..=80).contains(&formula.len()), "{formula} has {} bytes", formula.len());
@@ -40,9 +41,16 @@ impl Report {
             all.push(times);
         }
         let (kept, as_is) = (sorted(&all, |t| t.kept / t.ours), sorted(&all, |t| t.as_is / t.ours));
+        let floors = sorted(&all, |t| t.ours / t.floor);
         let middle = all.len() / 2;
         self.line(&format!(
-            "\nThe Rust with kept expressions takes {:.1} to {:.1} times as long, {:.1} in the middle; as it is, {:.0} to {:.0} \
+            "\nA call takes {:.1} to {:.1} times the floor, {:.1} in the middle.",
+            floors[0],
+            floors[all.len() - 1],
+            floors[middle]
+        ));
+        self.line(&format!(
+            "The Rust with kept expressions takes {:.1} to {:.1} times as long, {:.1} in the middle; as it is, {:.0} to {:.0} \
              times, {:.0} in the middle.\n",
             kept[0],
             kept[all.len() - 1],
@@ -57,9 +65,12 @@ impl Report {
         self.line("### Families\n");
         self.line("Each at 16, 64, 256, 1,024 and 4,096 bytes: microseconds of Jistranu at each length; the least number of times");
         self.line("as long that the Rust takes at any of them; microseconds of the Rust at 4,096 bytes. `5` and the like: refused by");
-        self.line("that number at 4,096 bytes.\n");
-        self.line("| family | text | 16 | 64 | 256 | 1,024 | 4,096 | answer | kept, least times | as it is, least times | kept | as it is |");
-        self.line("|---|---|---|---|---|---|---|---|---|---|---|---|");
+        self.line("that number at 4,096 bytes. Behind them the floor, and how many times the floor Jistranu takes at 16 and at 4,096 bytes.\n");
+        self.line(
+            "| family | text | 16 | 64 | 256 | 1,024 | 4,096 | answer | kept, least times | as it is, least times | kept | as it is \
+             | floor | floors at 16 | floors at 4,096 |",
+        );
+        self.line("|---|---|---|---|---|---|---|---|---|---|---|---|---|---|---|");
         for (family, shape) in families() {
             let all: Vec<Times> = LENGTHS.iter().filter_map(|&bytes| converters.times(TURNS, &shape.text(bytes))).collect();
             assert_eq!(all.len(), LENGTHS.len(), "the Rust panics on {family}");
@@ -67,14 +78,18 @@ impl Report {
             for times in &all {
                 let _ = write!(line, " {} |", microseconds(times.ours));
             }
-            let last = all[all.len() - 1];
+            let (first, last) = (all[0], all[all.len() - 1]);
+            let floor = sorted(&all, |t| t.floor)[0];
             let (kept, as_is) = (sorted(&all, |t| t.kept / t.ours)[0], sorted(&all, |t| t.as_is / t.ours)[0]);
             let _ = write!(
                 line,
-                " {} | {kept:.1} | {as_is:.0} | {} | {} |",
+                " {} | {kept:.1} | {as_is:.0} | {} | {} | {} | {:.1} | {:.1} |",
                 answer(last.refused),
                 microseconds(last.kept),
-                microseconds(last.as_is)
+                microseconds(last.as_is),
+                microseconds(floor),
+                first.ours / floor,
+                last.ours / floor
             );
             self.line(&line);
             self.rows.extend(LENGTHS.into_iter().zip(all).map(|(bytes, times)| Row { family, bytes, times }));
@@ -93,8 +108,8 @@ impl Report {
         self.line("Found by changing the slowest families piece by piece, as long as that makes them slower. Milliseconds of a call.\n");
         for for_ours in [true, false] {
             let title = if for_ours { "For Jistranu" } else { "For the Rust" };
-            self.line(&format!("| {title} | Jistranu | answer | kept | as it is |"));
-            self.line("|---|---|---|---|---|");
+            self.line(&format!("| {title} | Jistranu | floors | answer | kept | as it is |"));
+            self.line("|---|---|---|---|---|---|");
             let slowest = if for_ours { search::slowest_for_ours } else { search::slowest_for_kept };
             for shape in slowest(converters) {
                 self.slow_row(converters, &shape, for_ours);
@@ -108,12 +123,13 @@ impl Report {
         let text = shape.text(4_096);
         let ms = |seconds: f64| format!("{:.2}", seconds * 1e3);
         let ours = (0..3).map(|_| converters.time_ours(1, &text)).fold(f64::MAX, f64::min);
+        let floor = (0..3).map(|_| converters.time_floor(1_000)).fold(f64::MAX, f64::min);
         let refused = converters.refused(&text);
         let cells = match refused {
-            number if number > 0 && for_ours => format!("{} | {number} | | ", ms(ours)),
+            number if number > 0 && for_ours => format!("{} | {:.0} | {number} | | ", ms(ours), ours / floor),
             number => match converters.times(TURNS, &text) {
-                Some(t) => format!("{} | {} | {} | {}", ms(t.ours), answer(number), ms(t.kept), ms(t.as_is)),
-                None => format!("{} | {number} | panics | panics", ms(ours)),
+                Some(t) => format!("{} | {:.0} | {} | {} | {}", ms(t.ours), t.ours / t.floor, answer(number), ms(t.kept), ms(t.as_is)),
+                None => format!("{} | {:.0} | {number} | panics | panics", ms(ours), ours / floor),
             },
         };
         self.line(&format!("| {} | {cells} |", shape.shown()));
@@ -121,11 +137,11 @@ impl Report {
 
     /// All figures of the families, in nanoseconds.
     pub fn figures(&self) -> String {
-        let mut text = "family,bytes,jistranu,kept,as it is,refused\n".to_string();
+        let mut text = "family,bytes,floor,jistranu,kept,as it is,refused\n".to_string();
         for Row { family, bytes, times } in &self.rows {
             let ns = |seconds: f64| (seconds * 1e9).round();
-            let (ours, kept, as_is) = (ns(times.ours), ns(times.kept), ns(times.as_is));
-            let _ = writeln!(text, "\"{family}\",{bytes},{ours},{kept},{as_is},{}", times.refused);
+            let (floor, ours, kept, as_is) = (ns(times.floor), ns(times.ours), ns(times.kept), ns(times.as_is));
+            let _ = writeln!(text, "\"{family}\",{bytes},{floor},{ours},{kept},{as_is},{}", times.refused);
         }
         text
     }
@@ -154,8 +170,8 @@ fn microseconds(seconds: f64) -> String {
 }
 
 fn cells(t: Times) -> String {
-    let (ours, kept, as_is) = (microseconds(t.ours), microseconds(t.kept), microseconds(t.as_is));
-    format!("{ours} | {kept} | {as_is} | {:.1} | {:.0}", t.kept / t.ours, t.as_is / t.ours)
+    let (floor, ours, kept, as_is) = (microseconds(t.floor), microseconds(t.ours), microseconds(t.kept), microseconds(t.as_is));
+    format!("{floor} | {ours} | {kept} | {as_is} | {:.1} | {:.1} | {:.0}", t.ours / t.floor, t.kept / t.ours, t.as_is / t.ours)
 }
 
 /// Everything behind the heading of the last run is replaced.
