@@ -4,6 +4,7 @@ pub mod Parts
 pub mod Readers
 pub mod Rooms
 pub mod Steps
+pub mod Series
 pub mod Atoms
 pub mod Trees
 pub mod Complete

@@ -33,7 +33,7 @@ pub fit : {xs zs : List ℕ} {r : Read} {p : Part} {gap : ℕ} → length xs < 2
 fit l s v = omega arith
 
 module _ {xs zs : List ℕ} {p : Part} where
-  joined-within : {gap : ℕ} (r : Read) → Split xs p gap zs → Within r zs → Within (joined p gap r) xs
+  pub joined-within : {gap : ℕ} (r : Read) → Split xs p gap zs → Within r zs → Within (joined p gap r) xs
   joined-within Nothing s v = omega arith
   joined-within (Found q) s v = omega arith
 
@@ -75,12 +75,9 @@ module _ {xs ys : List ℕ} {p : Part} (front : Front readProduct 3 xs p ys) whe
   unfolding readSum
   sum-done t = answers (λ k h. rw (← found front k (omega arith), ← front .behind, t)) (front .answers .within)
 
-  pub sum-split : {zs : List ℕ} → signNext ys ≡ true → zs ≡ drop 3 ys → Split xs p 3 zs
-  sum-split t f = split front 3 (sign-room ys t) f
-
   pub sum-more : {zs : List ℕ} {r : Read} → signNext ys ≡ true → zs ≡ drop 3 ys → Answers readSum 4 zs r → Answers readSum 4 xs (joined p 3 r)
   unfolding readSum
-  sum-more {zs} {r} t f next = let s = sum-split t f in
+  sum-more {zs} {r} t f next = let s = split front 3 (sign-room ys t) f in
       answers (λ k h. rw (← found front k (omega arith), ← front .behind, t, ← f, ← next .exact k (omega arith))) (joined-within r s (next .within))
 
 -- a product
@@ -93,12 +90,9 @@ module _ {xs ys : List ℕ} {p : Part} (front : Front readFactor 2 xs p ys) wher
   unfolding readProduct
   product-done t = answers (λ k h. rw (← found front k (omega arith), ← front .behind, t)) (front .answers .within)
 
-  pub product-split : {zs : List ℕ} → factorNext ys ≡ true → zs ≡ drop 1 ys → Split xs p 1 zs
-  product-split t f = split front 1 (factor-room ys t) f
-
   pub product-more : {zs : List ℕ} {r : Read} → factorNext ys ≡ true → zs ≡ drop 1 ys → Answers readProduct 3 zs r → Answers readProduct 3 xs (joined p 1 r)
   unfolding readProduct
-  product-more {zs} {r} t f next = let s = product-split t f in
+  product-more {zs} {r} t f next = let s = split front 1 (factor-room ys t) f in
       answers (λ k h. rw (← found front k (omega arith), ← front .behind, t, ← f, ← next .exact k (omega arith))) (joined-within r s (next .within))
 
 -- a factor

@@ -1,39 +1,41 @@
 // A reader for each rule of the grammar. A sum holds factors and a factor may hold a sum, so the readers call each other; the unread
-// length falls.
+// length falls. Products and factors are read by loops, so the calls nest no deeper than the parentheses.
 use super::Read;
 use super::joins;
 use super::tokens;
 ghost use Prim.Native.Nat.{_<_};
 ghost use Rattle.plain.specs.Readers.{Answers, readSum, readProduct, readFactor, readOperand, readScripts, readScript};
 
-// A sum: a product, or a product, ` + ` or ` - `, and a sum.
+// A sum: products with ` + ` or ` - ` between them.
 pub fn sum(s: &[u8]) -> Read
     ensures { λ r. ⌜ Answers readSum 4 (now (s .entry)) r ⌝ }
 {
-    let Read::Found(p) = product(s) else {
-        return Read::Nothing;
-    };
-    let n = p.used;
-    let t = tokens::rest(s, n);
-    if tokens::sign_next(t) {
-        return joins::joined(p, 3, sum(tokens::rest(t, 3)));
+    let mut r = product(s);
+    while let Read::Found(p) = r {
+        let n = p.used;
+        let t = tokens::rest(s, n);
+        if !tokens::sign_next(t) {
+            return r;
+        }
+        r = joins::joined(p, 3, product(tokens::rest(t, 3)));
     }
-    Read::Found(p)
+    r
 }
 
-// A product: a factor, or a factor, one space and a product.
+// A product: factors with one space between them.
 fn product(s: &[u8]) -> Read
     ensures { λ r. ⌜ Answers readProduct 3 (now (s .entry)) r ⌝ }
 {
-    let Read::Found(p) = factor(s) else {
-        return Read::Nothing;
-    };
-    let n = p.used;
-    let t = tokens::rest(s, n);
-    if tokens::factor_next(t) {
-        return joins::joined(p, 1, product(tokens::rest(t, 1)));
+    let mut r = factor(s);
+    while let Read::Found(p) = r {
+        let n = p.used;
+        let t = tokens::rest(s, n);
+        if !tokens::factor_next(t) {
+            return r;
+        }
+        r = joins::joined(p, 1, factor(tokens::rest(t, 1)));
     }
-    Read::Found(p)
+    r
 }
 
 // A factor: a fraction, an atom with its scripts, or a sum in parentheses.

@@ -96,7 +96,7 @@ abbrev pub operand-calls : (t : ℕ) → operand-lts.Claims
 operand-calls t = (atom-reads.Asked, atom-reads.Learnt, leaf-reads.Asked, leaf-reads.Learnt, symbol-reads.Asked, symbol-reads.Learnt, rest-reads.Asked, rest-reads.Learnt, sum-below t, sum.Post, closed-reads.Asked, closed-reads.Learnt)
 
 abbrev pub product-calls : (t : ℕ) → product-lts.Claims
-product-calls t = (factor-below t, factor.Post, rest-reads.Asked, rest-reads.Learnt, factor-next-reads.Asked, factor-next-reads.Learnt, product-below t, product.Post, joined-reads.Asked, joined-reads.Learnt)
+product-calls t = (factor-below t, factor.Post, rest-reads.Asked, rest-reads.Learnt, factor-next-reads.Asked, factor-next-reads.Learnt, joined-reads.Asked, joined-reads.Learnt)
 
 abbrev pub script-calls : (t : ℕ) → script-lts.Claims
 script-calls t = (symbol-reads.Asked, symbol-reads.Learnt, leaf-reads.Asked, leaf-reads.Learnt, rest-reads.Asked, rest-reads.Learnt, is-alnum-reads.Asked, is-alnum-reads.Learnt, operand-below t, operand.Post, grouped-reads.Asked, grouped-reads.Learnt)
@@ -105,4 +105,4 @@ abbrev pub scripts-calls : (t : ℕ) → scripts-lts.Claims
 scripts-calls t = (script-below t, script.Post, rest-reads.Asked, rest-reads.Learnt, joined-reads.Asked, joined-reads.Learnt)
 
 abbrev pub sum-calls : (t : ℕ) → sum-lts.Claims
-sum-calls t = (product-below t, product.Post, rest-reads.Asked, rest-reads.Learnt, sign-next-reads.Asked, sign-next-reads.Learnt, sum-below t, sum.Post, joined-reads.Asked, joined-reads.Learnt)
+sum-calls t = (product-below t, product.Post, rest-reads.Asked, rest-reads.Learnt, sign-next-reads.Asked, sign-next-reads.Learnt, joined-reads.Asked, joined-reads.Learnt)
