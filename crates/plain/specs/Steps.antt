@@ -1,21 +1,21 @@
 -- The steps of each reader, as laws: from what its callees answered follows what it answers. A law names each stretch of the text by a
 -- variable and an equation, so that a proof hands over what the code ensures as it stands. Completeness goes by the same laws.
 -- Assumes nothing.
-use mathlib.Core.Path.{_≡_, refl, ap, _∙_}
-use mathlib.Core.Bool.{Bool, true, false}
+use mathlib.Core.Path.{_≡_, refl, sym, ap, _∙_}
+use mathlib.Core.Bool.{Bool, true, false, not, _&&_}
 use mathlib.Core.List.{List}
 use Prim.Native.Nat.{ℕ, zero, suc, _+_, _*_, _-_, _≤_, _<_, _^_}
 use Prim.Native.Char.{code}
 use native.Mathlib.Omega.{arith}
-use lib.Dec.{eqb}
+use lib.Dec.{eqb, ltb}
 use lib.ListN.{length, drop, length-drop}
-use borrow.Author.Tests.{eqb-true, eq-eqb, ne-eqb, lt-ltb, le-ltb}
+use borrow.Author.Tests.{eqb-true, eq-eqb, ne-eqb, lt-ltb, le-ltb, not-false}
 use Rattle.spec.specs.Symbols.{alnum}
 use Rattle.plain.specs.declared.Part.{Part}
 use Rattle.plain.specs.declared.Read.{Read}
 use Rattle.plain.specs.declared.Read.the-variants.{Found, Nothing}
 use Rattle.plain.specs.Tokens.{at, signNext, factorNext, atomLength}
-use Rattle.plain.specs.Parts.{Fit, Within, either, over, barred, wrap, asScript, leaf, joined, divided, scripted, closed, grouped}
+use Rattle.plain.specs.Parts.{Fit, Within, bytesOf, either, over, barred, wrap, asScript, leaf, joined, divided, scripted, closed, grouped}
 use Rattle.plain.specs.Readers.{Answers, readSum, readProduct, readFactor, readOperand, readScripts, readScript}
 use Rattle.plain.specs.Rooms.{in-text, sign-room, factor-room, byte-room, word-room, atom-room}
 
@@ -95,6 +95,23 @@ module _ {xs ys : List ℕ} {p : Part} (front : Front readFactor 2 xs p ys) wher
   product-more {zs} {r} t f next = let s = split front 1 (factor-room ys t) f in
       answers (λ k h. rw (← found front k (omega arith), ← front .behind, t, ← f, ← next .exact k (omega arith))) (joined-within r s (next .within))
 
+-- a sum in parentheses is no lone atom
+abbrev loneOf : Read → Bool
+loneOf Nothing = false
+loneOf (Found p) = p .lone
+
+closed-lone : (xs : List ℕ) (r : Read) → loneOf (closed xs r) ≡ false
+closed-lone xs Nothing = refl
+closed-lone xs (Found p) = by (eqb (at xs (p .used)) (code ")"))
+  where
+    by : (b : Bool) → loneOf (either b (λ _. Found (wrap p)) (λ _. Nothing)) ≡ false
+    by true = refl
+    by false = refl
+
+group-lone : (b : Bool) (xs : List ℕ) (r : Read) → loneOf (either b (λ _. closed xs r) (λ _. Nothing)) ≡ false
+group-lone true xs r = closed-lone xs r
+group-lone false xs r = refl
+
 -- a factor
 pub factor-nothing : {xs : List ℕ} → Answers readOperand 1 xs Nothing → Answers readFactor 2 xs Nothing
 unfolding readFactor
@@ -120,6 +137,24 @@ module _ {xs ys : List ℕ} {p : Part} (front : Front readOperand 1 xs p ys) whe
   pub factor-done : (at ys 0 ≡ code "/" → ⊥) → p .lone ≡ false → Answers readFactor 2 xs (Found p)
   unfolding readFactor
   factor-done t l = answers (λ k h. rw (← found front k (omega arith), ← front .behind, ne-eqb (at ys 0) (code "/") t, l)) (front .answers .within)
+
+  -- what is read as an operand is no atom: that would have been read with its scripts, or as a numerator
+  pub factor-group : {n : ℕ} {zs : List ℕ} → n ≡ atomLength xs → zs ≡ drop n xs → ltb 0 n && not (eqb (at zs 0) (code "/")) ≡ false → (at ys 0 ≡ code "/" → ⊥) → Answers readFactor 2 xs (Found p)
+  unfolding readOperand
+  factor-group {n} {zs} e d f t = factor-done t (by (ltb 0 n) refl)
+    where
+      k : ℕ
+      k = 5 * length xs + 1
+
+      reading : Found p ≡ readOperand (suc k) xs
+      reading = found front (suc k) (omega arith)
+
+      by : (b : Bool) → ltb 0 n ≡ b → p .lone ≡ false
+      by true g =
+          let atom : Found p ≡ Found (leaf n 1 true) = rw (← e, g) at reading in
+          let slash : at zs 0 ≡ code "/" = eqb-true (at zs 0) (code "/") (not-false (eqb (at zs 0) (code "/")) (rw g at f)) in
+          absurd (t (ap (λ l. at l 0) (front .behind ∙ ap (λ m. drop m xs) (ap bytesOf atom) ∙ sym d) ∙ slash))
+      by false g = ap loneOf (rw (← e, g) at reading) ∙ group-lone (eqb (at xs 0) (code "(")) (drop 1 xs) (readSum k (drop 1 xs))
 
 -- an operand
 pub tail-size : (xs : List ℕ) {ys : List ℕ} → ys ≡ drop 1 xs → length ys ≡ length xs - 1

@@ -2,6 +2,7 @@
 use super::Part;
 use super::Read;
 ghost use mathlib.Core.Path.{_≡_};
+ghost use mathlib.Core.Bool.{true};
 ghost use Prim.Native.Nat.{_+_, _<_, _^_};
 ghost use Rattle.plain.specs.Parts.{bytesOf, Fit, Within, leaf, found, joined, divided, scripted, closed, grouped};
 
@@ -44,17 +45,17 @@ pub fn divided(p: Part, r: Read) -> Read
     })
 }
 
-// An atom and its scripts.
-pub fn scripted(p: Part, r: Read) -> Read
-    requires { ⌜ Fit p 0 r ⌝ }
-    ensures { λ a. ⌜ a ≡ scripted p r ⌝ }
+// An atom of n bytes and its scripts.
+pub fn scripted(n: usize, r: Read) -> Read
+    requires { ⌜ Fit (leaf n 1 true) 0 r ⌝ }
+    ensures { λ a. ⌜ a ≡ scripted (leaf n 1 true) r ⌝ }
 {
     let Read::Found(q) = r else {
         return Read::Nothing;
     };
     Read::Found(Part {
-        used: p.used + q.used,
-        atoms: p.atoms + q.atoms,
+        used: n + q.used,
+        atoms: 1 + q.atoms,
         lone: q.scriptless,
         wrapped: false,
         slashless: q.slashless,

@@ -38,20 +38,22 @@ fn product(s: &[u8]) -> Read
     r
 }
 
-// A factor: a fraction, an atom with its scripts, or a sum in parentheses.
+// A factor: an atom with its scripts, a fraction, or a sum in parentheses.
 fn factor(s: &[u8]) -> Read
     ensures { λ r. ⌜ Answers readFactor 2 (now (s .entry)) r ⌝ }
 {
+    let n = tokens::atom(s);
+    let t = tokens::rest(s, n);
+    if (0 < n) & (search::symbol(t, 0) != b'/') {
+        return joins::scripted(n, scripts(t));
+    }
     let Read::Found(p) = operand(s) else {
         return Read::Nothing;
     };
-    let n = p.used;
-    let t = tokens::rest(s, n);
-    if search::symbol(t, 0) == b'/' {
-        return joins::divided(p, operand(tokens::rest(t, 1)));
-    }
-    if p.lone {
-        return joins::scripted(p, scripts(t));
+    let m = p.used;
+    let u = tokens::rest(s, m);
+    if search::symbol(u, 0) == b'/' {
+        return joins::divided(p, operand(tokens::rest(u, 1)));
     }
     Read::Found(p)
 }

@@ -16,13 +16,13 @@ returns : tie.Need-returns
 returns c = search needs
 
 add-t4 : tie.Need-add-t4
-add-t4 c = omega (arith, ap bytesOf (c .before .before .before .r .given .1))
+add-t4 c = omega (arith, ap bytesOf (c .before .before .r .given .1))
 
 add-t5 : tie.Need-add-t5
-add-t5 c = omega (arith, ap atomsOf (c .before .before .before .before .before .r .given .1))
+add-t5 c = omega (arith, ap atomsOf (c .before .before .before .r .given .1))
 
 returns-2 : tie.Need-returns-2
-returns-2 c = rw (c .before .before .before .before .before .r .given .1)
+returns-2 c = rw (c .before .before .before .r .given .1)
 
 pub scripted-spec : {M : Type 1} → statement M
 scripted-spec = tie.close (tie.spec enum-known-r enum-told returns add-t4 add-t5 returns-2)

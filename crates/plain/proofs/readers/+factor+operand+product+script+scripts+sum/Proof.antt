@@ -8,10 +8,15 @@ mod Scripts
 use Prim.Native.Nat.{ℕ}
 use Prim.Native.Char.{code}
 use native.Mathlib.Omega.{arith}
-use mathlib.Core.Path.{sym, _∙_}
+use mathlib.Core.Path.{refl, sym, _∙_}
+use mathlib.Core.Bool.{true}
+use lib.Dec.{ltb}
 use borrow.Author.Needs.{needs}
+use borrow.Author.Tests.{ltb-true, eqb-false, not-true}
+use Rattle.spec.specs.Laws.Booleans.{and-left, and-right}
+use Rattle.plain.specs.Parts.{leaf}
 use Rattle.plain.specs.Readers.{readOperand}
-use Rattle.plain.specs.Steps.{Front, fit, factor-nothing, fraction-split, scripted-split, factor-fraction, factor-scripted, factor-done, operand-atom, operand-group, operand-nothing, tail-size}
+use Rattle.plain.specs.Steps.{Front, fit, factor-nothing, fraction-split, scripted-split, factor-fraction, factor-scripted, factor-group, operand-atom, operand-group, operand-nothing, tail-size}
 use Rattle.plain.specs.Rooms.{byte-room}
 use Rattle.plain.proofs.readers.factor.Reads as factor
 use Rattle.plain.proofs.readers.+factor+operand+product+script+scripts+sum.Lts-factor as factor-lts
@@ -31,10 +36,48 @@ use Rattle.plain.proofs.readers.+factor+operand+product+script+scripts+
 use Rattle.plain.proofs.readers.+factor+operand+product+script+scripts+sum.Proof.Scripts.{script-symbol-requires, script-leaf-requires, script-returns, script-rest-requires, script-symbol-requires-2, script-is-alnum-requires, script-leaf-requires-2, script-returns-2, script-operand-requires, script-grouped-requires, script-returns-3, scripts-script-requires, scripts-enum-known-p, scripts-enum-told, scripts-returns, scripts-rest-requires, scripts-script-requires-2, scripts-joined-requires, scripts-returns-2}
 use Rattle.plain.proofs.readers.+factor+operand+product+script+scripts+sum.Proof.Series.{product-Inv-loop, product-μ-loop, product-factor-requires, product-loop-holds, product-enum-known-r, product-rest-requires, product-factor-next-requires, product-returns, product-rest-requires-2, product-factor-requires-2, product-joined-requires, product-loop-less, product-loop-again, product-enum-told, product-returns-2, sum-Inv-loop, sum-μ-loop, sum-product-requires, sum-loop-holds, sum-enum-known-r, sum-rest-requires, sum-sign-next-requires, sum-returns, sum-rest-requires-2, sum-product-requires-2, sum-joined-requires, sum-loop-less, sum-loop-again, sum-enum-told, sum-returns-2}
 
-factor-front : (t : ℕ) (c : factor-lts.After-rest (factor-calls t) (factor-at t) factor.Post) → Front readOperand 1 (c .before .before .before .before .before .before .args .s .now) (c .before .before .p .given .0 .0) (c .rest .result .now)
+-- the atom that comes next, with no slash behind it
+factor-atom : (t : ℕ) (c : factor-lts.Then1 (factor-calls t) (factor-at t) factor.Post)
+    → (let rest = c .before .before in let atom = rest .before in let start = atom .before .before in Front readOperand 1 (start .args .s .now) (leaf (atom .atom .result) 1 true) (rest .rest .result .now))
+factor-atom t c =
+    let rest = c .before .before in
+    let atom = rest .before in
+    let start = atom .before .before in
+    record { answers = operand-atom (start .args .s .now) (atom .atom .ensures) (ltb-true _ _ (and-left _ _ (c .if1 .taken))); behind = rest .rest .ensures }
+
+-- the operand that comes next
+factor-front : (t : ℕ) (c : factor-lts.After-rest2 (factor-calls t) (factor-at t) factor.Post)
+    → (let found = c .before .before in let left = found .before .before .before in let atom = left .before .before .before in let start = atom .before .before in
+    Front readOperand 1 (start .args .s .now) (found .p .given .0 .0) (c .rest2 .result .now))
 factor-front t c =
     let found = c .before .before in
-    record { answers = rw (found .p .given .1) at (found .before .before .operand .ensures); behind = c .rest .ensures }
+    record { answers = rw (found .p .given .1) at (found .before .before .operand .ensures); behind = c .rest2 .ensures }
+
+factor-atom-requires : (t : ℕ) → factor-lts.Need-atom-requires (factor-calls t) (factor-at t) factor.Post
+factor-atom-requires t c κs = search needs
+
+factor-rest-requires : (t : ℕ) → factor-lts.Need-rest-requires (factor-calls t) (factor-at t) factor.Post
+factor-rest-requires t c κs = search needs
+
+factor-symbol-requires : (t : ℕ) → factor-lts.Need-symbol-requires (factor-calls t) (factor-at t) factor.Post
+factor-symbol-requires t c κs = search needs
+
+factor-scripts-requires : (t : ℕ) → factor-lts.Need-scripts-requires (factor-calls t) (factor-at t) factor.Post
+factor-scripts-requires t c κs = omega (arith, scripted-split (factor-atom t c))
+
+factor-scripted-requires : (t : ℕ) → factor-lts.Need-scripted-requires (factor-calls t) (factor-at t) factor.Post
+factor-scripted-requires t c κs =
+    let rest = c .before .before .before in
+    let start = rest .before .before .before in
+    fit (start .good .0 .0) (scripted-split (factor-atom t (c .before))) (c .scripts .ensures .within)
+
+factor-returns : (t : ℕ) → factor-lts.Need-returns (factor-calls t) (factor-at t) factor.Post
+factor-returns t c =
+    let taken = c .before .before in
+    let tested = taken .before in
+    let atom = tested .before .before in
+    let other = not-true _ (and-right (ltb 0 (atom .atom .result)) _ (taken .if1 .taken)) in
+    rw (c .scripted .ensures) (factor-scripted (factor-atom t taken) (λ e. eqb-false _ _ other (tested .symbol .ensures ∙ e)) refl (c .before .scripts .ensures))
 
 factor-operand-requires : (t : ℕ) → factor-lts.Need-operand-requires (factor-calls t) (factor-at t) factor.Post
 factor-operand-requires t c κs = omega arith
@@ -45,59 +88,52 @@ factor-enum-known-p t c = search needs
 factor-enum-told : (t : ℕ) → factor-lts.Need-enum-told (factor-calls t) (factor-at t) factor.Post
 factor-enum-told t c = search needs
 
-factor-returns : (t : ℕ) → factor-lts.Need-returns (factor-calls t) (factor-at t) factor.Post
-factor-returns t c = factor-nothing (rw (c .enum-told .given .1) at (c .before .before .operand .ensures))
-
-factor-rest-requires : (t : ℕ) → factor-lts.Need-rest-requires (factor-calls t) (factor-at t) factor.Post
-factor-rest-requires t c κs = search needs
-
-factor-symbol-requires : (t : ℕ) → factor-lts.Need-symbol-requires (factor-calls t) (factor-at t) factor.Post
-factor-symbol-requires t c κs = search needs
+factor-returns-2 : (t : ℕ) → factor-lts.Need-returns-2 (factor-calls t) (factor-at t) factor.Post
+factor-returns-2 t c = factor-nothing (rw (c .enum-told .given .1) at (c .before .before .operand .ensures))
 
 factor-rest-requires-2 : (t : ℕ) → factor-lts.Need-rest-requires-2 (factor-calls t) (factor-at t) factor.Post
 factor-rest-requires-2 t c κs = search needs
 
+factor-symbol-requires-2 : (t : ℕ) → factor-lts.Need-symbol-requires-2 (factor-calls t) (factor-at t) factor.Post
+factor-symbol-requires-2 t c κs = search needs
+
+factor-rest-requires-3 : (t : ℕ) → factor-lts.Need-rest-requires-3 (factor-calls t) (factor-at t) factor.Post
+factor-rest-requires-3 t c κs = search needs
+
 factor-operand-requires-2 : (t : ℕ) → factor-lts.Need-operand-requires-2 (factor-calls t) (factor-at t) factor.Post
 factor-operand-requires-2 t c κs =
-    let rest = c .before .before .before in
-    omega (arith, fraction-split (factor-front t rest) (sym (c .before .before .symbol .ensures) ∙ c .before .if1 .taken) (c .rest2 .ensures))
+    let slash = c .before in
+    let rest = slash .before .before in
+    let found = rest .before .before in
+    let left = found .before .before .before in
+    let atom = left .before .before .before in
+    omega (arith, atom .before .before, fraction-split (factor-front t rest) (sym (slash .before .symbol2 .ensures) ∙ slash .if2 .taken) (c .rest3 .ensures))
 
 factor-divided-requires : (t : ℕ) → factor-lts.Need-divided-requires (factor-calls t) (factor-at t) factor.Post
 factor-divided-requires t c κs =
     let slash = c .before .before in
     let rest = slash .before .before in
-    let start = rest .before .before .before .before .before .before in
-    let split = fraction-split (factor-front t rest) (sym (slash .before .symbol .ensures) ∙ slash .if1 .taken) (c .before .rest2 .ensures) in
+    let found = rest .before .before in
+    let left = found .before .before .before in
+    let atom = left .before .before .before in
+    let start = atom .before .before in
+    let split = fraction-split (factor-front t rest) (sym (slash .before .symbol2 .ensures) ∙ slash .if2 .taken) (c .before .rest3 .ensures) in
     fit (start .good .0 .0) split (c .operand2 .ensures .within)
-
-factor-returns-2 : (t : ℕ) → factor-lts.Need-returns-2 (factor-calls t) (factor-at t) factor.Post
-factor-returns-2 t c =
-    let slash = c .before .before .before in
-    let rest = slash .before .before in
-    let stands = sym (slash .before .symbol .ensures) ∙ slash .if1 .taken in
-    rw (c .divided .ensures) (factor-fraction (factor-front t rest) stands (c .before .before .rest2 .ensures) (c .before .operand2 .ensures))
-
-factor-scripts-requires : (t : ℕ) → factor-lts.Need-scripts-requires (factor-calls t) (factor-at t) factor.Post
-factor-scripts-requires t c κs = omega (arith, scripted-split (factor-front t (c .before .before .before)))
-
-factor-scripted-requires : (t : ℕ) → factor-lts.Need-scripted-requires (factor-calls t) (factor-at t) factor.Post
-factor-scripted-requires t c κs =
-    let rest = c .before .before .before .before in
-    let start = rest .before .before .before .before .before .before in
-    fit (start .good .0 .0) (scripted-split (factor-front t rest)) (c .scripts .ensures .within)
 
 factor-returns-3 : (t : ℕ) → factor-lts.Need-returns-3 (factor-calls t) (factor-at t) factor.Post
 factor-returns-3 t c =
-    let lone = c .before .before in
-    let other = lone .before in
-    let rest = other .before .before in
-    rw (c .scripted .ensures)
-    (factor-scripted (factor-front t rest) (λ e. other .if1 .left (other .before .symbol .ensures ∙ e)) (lone .if2 .taken) (c .before .scripts .ensures))
+    let slash = c .before .before .before in
+    let stands = sym (slash .before .symbol2 .ensures) ∙ slash .if2 .taken in
+    rw (c .divided .ensures) (factor-fraction (factor-front t (slash .before .before)) stands (c .before .before .rest3 .ensures) (c .before .operand2 .ensures))
 
 factor-returns-4 : (t : ℕ) → factor-lts.Need-returns-4 (factor-calls t) (factor-at t) factor.Post
 factor-returns-4 t c =
-    let other = c .before in
-    factor-done (factor-front t (other .before .before)) (λ e. other .if1 .left (other .before .symbol .ensures ∙ e)) (c .if2 .left)
+    let rest = c .before .before in
+    let found = rest .before .before in
+    let left = found .before .before .before in
+    let tested = left .before in
+    let atom = tested .before .before in
+    factor-group (factor-front t rest) (atom .atom .ensures) (tested .before .rest .ensures) (rw (tested .symbol .ensures) at (left .if1 .left)) (λ e. c .if2 .left (c .before .symbol2 .ensures ∙ e))
 
 operand-atom-requires : (t : ℕ) → operand-lts.Need-atom-requires (operand-calls t) (operand-at t) operand.Post
 operand-atom-requires t c κs = search needs
@@ -144,9 +180,10 @@ operand-returns-3 t c =
 pub +factor+operand+product+script+scripts+sum-spec : {M : Type 1} → statement M
 +factor+operand+product+script+scripts+sum-spec =
     close μ-factor μ-operand μ-product μ-script μ-scripts μ-sum (λ t. factor-lts.spec (factor-calls t) (factor-at t) factor.Post
-    (factor-operand-requires t) (factor-enum-known-p t) (factor-enum-told t) (factor-returns t) (factor-rest-requires t)
-    (factor-symbol-requires t) (factor-rest-requires-2 t) (factor-operand-requires-2 t) (factor-divided-requires t) (factor-returns-2 t)
-    (factor-scripts-requires t) (factor-scripted-requires t) (factor-returns-3 t) (factor-returns-4 t))
+    (factor-atom-requires t) (factor-rest-requires t) (factor-symbol-requires t) (factor-scripts-requires t) (factor-scripted-requires t)
+    (factor-returns t) (factor-operand-requires t) (factor-enum-known-p t) (factor-enum-told t) (factor-returns-2 t)
+    (factor-rest-requires-2 t) (factor-symbol-requires-2 t) (factor-rest-requires-3 t) (factor-operand-requires-2 t)
+    (factor-divided-requires t) (factor-returns-3 t) (factor-returns-4 t))
     (λ t. operand-lts.spec (operand-calls t) (operand-at t) operand.Post (operand-atom-requires t) (operand-leaf-requires t)
     (operand-returns t) (operand-symbol-requires t) (operand-rest-requires t) (operand-sum-requires t) (operand-closed-requires t)
     (operand-returns-2 t) (operand-returns-3 t))

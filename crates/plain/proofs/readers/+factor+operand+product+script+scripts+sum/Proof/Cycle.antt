@@ -90,7 +90,7 @@ abbrev pub sum-below : ℕ → In 1 sum-kinds.ps
 sum-below t = and 1 sum-kinds.ps (falls 1 sum-kinds.ps _<_ μ-sum t) sum.Pre
 
 abbrev pub factor-calls : (t : ℕ) → factor-lts.Claims
-factor-calls t = (operand-below t, operand.Post, rest-reads.Asked, rest-reads.Learnt, symbol-reads.Asked, symbol-reads.Learnt, divided-reads.Asked, divided-reads.Learnt, scripts-below t, scripts.Post, scripted-reads.Asked, scripted-reads.Learnt)
+factor-calls t = (atom-reads.Asked, atom-reads.Learnt, rest-reads.Asked, rest-reads.Learnt, symbol-reads.Asked, symbol-reads.Learnt, scripts-below t, scripts.Post, scripted-reads.Asked, scripted-reads.Learnt, operand-below t, operand.Post, divided-reads.Asked, divided-reads.Learnt)
 
 abbrev pub operand-calls : (t : ℕ) → operand-lts.Claims
 operand-calls t = (atom-reads.Asked, atom-reads.Learnt, leaf-reads.Asked, leaf-reads.Learnt, symbol-reads.Asked, symbol-reads.Learnt, rest-reads.Asked, rest-reads.Learnt, sum-below t, sum.Post, closed-reads.Asked, closed-reads.Learnt)
