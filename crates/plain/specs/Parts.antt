@@ -1,7 +1,7 @@
 -- How parts that were read make a larger one. Assumes nothing.
 --     leaf, join, over, withScripts, wrap, asScript     of parts
---     found, joined, divided, scripted, closed, grouped the same where there may be nothing, with what the rules forbid
---     Fit, Within                                       what keeps counts small
+--     found, joined, behind, divided, scripted, closed, grouped   the same where there may be nothing, with what the rules forbid
+--     Fit, FitBehind, Within                            what keeps counts small
 use mathlib.Core.Bool.{Bool, true, false, not, _&&_, _||_}
 use mathlib.Core.List.{List}
 use Prim.Native.Nat.{ℕ, _+_, _≤_, _<_, _^_}
@@ -25,6 +25,11 @@ atomsOf (Found p) = p .atoms
 pub record Fit (p : Part) (gap : ℕ) (r : Read) : Type 0 where
   pub bytes : p .used + gap + bytesOf r < 2 ^ 64
   pub atoms : p .atoms + atomsOf r < 2 ^ 64
+
+-- the same where there may be nothing before
+abbrev pub FitBehind : Read → ℕ → Read → Type 0
+FitBehind Nothing gap r = Unit {0}
+FitBehind (Found p) gap r = Fit p gap r
 
 -- what was read lies in the text, and its atoms among its bytes
 pub record Within (r : Read) (xs : List ℕ) : Type 0 where
@@ -74,6 +79,10 @@ found p = Found p
 
 abbrev pub joined : Part → ℕ → Read → Read
 joined p gap r = andThen r λ q. Found (join p gap q)
+
+abbrev pub behind : Read → ℕ → Read → Read
+behind Nothing gap r = r
+behind (Found p) gap r = joined p gap r
 
 -- a numerator with a slash, or an operand that is an atom in parentheses
 abbrev pub barred : Part → Part → Bool

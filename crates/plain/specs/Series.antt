@@ -1,13 +1,14 @@
 -- A series: parts with a gap between them. The definitions read it from the right, the code by a loop from the left. Assumes nothing.
 --     joined-assoc                 why both give one part
 --     Series, sums, products       what comes next in a series, and what reads the whole
---     Begun, SoFar, Turn           what is known at the loop's head, and in a turn
---     begun-sum, begun-product     before the first turn
---     turn-more, turn-less         after a turn
+--     Begun, SoFar                 what is known once a part has been read
+--     Turn, Ahead                  what is known at the loop's head, where the next part begins
+--     begun-sum, begun-product     the first part
+--     ahead-more, ahead-less       a turn, and that less is left to read after it
 use mathlib.Core.Path.{_≡_, refl, sym, ap, _∙_}
 use mathlib.Core.Bool.{Bool, true, false, and-assoc}
 use mathlib.Core.List.{List}
-use Prim.Native.Nat.{ℕ, suc, _+_, _-_, _≤_, _<_}
+use Prim.Native.Nat.{ℕ, _+_, _≤_, _<_, _^_}
 use native.Mathlib.Nat.{add-assoc}
 use native.Mathlib.Omega.{arith}
 use lib.ListN.{length, drop, length-drop}
@@ -16,10 +17,10 @@ use Rattle.plain.specs.declared.Part.{Part}
 use Rattle.plain.specs.declared.Read.{Read}
 use Rattle.plain.specs.declared.Read.the-variants.{Found, Nothing}
 use Rattle.plain.specs.Tokens.{signNext, factorNext}
-use Rattle.plain.specs.Parts.{Within, join, joined}
+use Rattle.plain.specs.Parts.{bytesOf, FitBehind, Within, join, joined, behind}
 use Rattle.plain.specs.Readers.{Answers, readSum, readProduct, readFactor}
 use Rattle.plain.specs.Rooms.{sign-room, factor-room}
-use Rattle.plain.specs.Steps.{Split, joined-within, sum-nothing, sum-done, sum-more, product-nothing, product-done, product-more}
+use Rattle.plain.specs.Steps.{Split, fit, joined-within, sum-nothing, sum-done, sum-more, product-nothing, product-done, product-more}
 
 join-assoc : (p q r : Part) (a b : ℕ) → join p a (join q b r) ≡ join (join p a q) b r
 join-assoc p q r a b = simp (and-assoc, add-assoc)
@@ -54,12 +55,18 @@ module _ (σ : Series) where
   SoFar xs Nothing = Answers (σ .read) (σ .rank) xs Nothing
   SoFar xs (Found p) = Begun xs p
 
-  -- p, which ys is behind, a gap, and one more part at the front of zs
-  pub record Turn (xs : List ℕ) (p : Part) (ys zs : List ℕ) : Type 0 where
+  -- xs is p, a gap, and zs, where one more part begins
+  pub record Turn (xs : List ℕ) (p : Part) (zs : List ℕ) : Type 0 where
     pub begun : Begun xs p
-    pub behind : ys ≡ drop (p .used) xs
-    pub comes : σ .next ys ≡ true
-    pub after : zs ≡ drop (σ .gap) ys
+    pub rest : List ℕ
+    pub behind : rest ≡ drop (p .used) xs
+    pub comes : σ .next rest ≡ true
+    pub after : zs ≡ drop (σ .gap) rest
+
+  -- where the next part begins: at the first symbol where nothing has been read
+  pub data Ahead (xs : List ℕ) : Read → List ℕ → Type 0 where
+    first : Ahead xs Nothing xs
+    later : {p : Part} {zs : List ℕ} → Turn xs p zs → Ahead xs (Found p) zs
 
 pub begun-sum : {xs : List ℕ} (r : Read) → Answers readProduct 3 xs r → SoFar sums xs r
 begun-sum Nothing a = sum-nothing a
@@ -79,16 +86,11 @@ begun-product (Found p) a =
       more = λ d t f next. product-more (record { answers = a; behind = d }) t f next;
     }
 
--- what is left to read
-abbrev pub left : List ℕ → Read → ℕ
-left xs Nothing = 0
-left xs (Found p) = suc (length xs - p .used)
-
-module _ {σ : Series} {xs : List ℕ} {p : Part} {ys zs : List ℕ} (turn : Turn σ xs p ys zs) where
-  pub turn-split : Split xs p (σ .gap) zs
+module _ {σ : Series} {xs : List ℕ} {p : Part} {zs : List ℕ} (turn : Turn σ xs p zs) where
+  turn-split : Split xs p (σ .gap) zs
   turn-split =
       let w = turn .begun .within in
-      omega (arith, σ .room ys (turn .comes), ap length (turn .behind) ∙ length-drop (p .used) xs, ap length (turn .after) ∙ length-drop (σ .gap) ys)
+      omega (arith, σ .room (turn .rest) (turn .comes), ap length (turn .behind) ∙ length-drop (p .used) xs, ap length (turn .after) ∙ length-drop (σ .gap) (turn .rest))
 
   skipped : (n : ℕ) {us : List ℕ} → us ≡ drop (p .used + σ .gap + n) xs → us ≡ drop n zs
   skipped n e = e ∙ sym (rw (turn .after, turn .behind, drop-drop (σ .gap) (p .used) xs, drop-drop n (p .used + σ .gap) xs))
@@ -96,7 +98,7 @@ module _ {σ : Series} {xs : List ℕ} {p : Part} {ys zs : List ℕ} (turn : Tur
   all : {r : Read} → Answers (σ .read) (σ .rank) zs r → Answers (σ .read) (σ .rank) xs (joined p (σ .gap) r)
   all next = turn .begun .more (turn .behind) (turn .comes) (turn .after) next
 
-  pub turn-more : (r : Read) → SoFar σ zs r → SoFar σ xs (joined p (σ .gap) r)
+  turn-more : (r : Read) → SoFar σ zs r → SoFar σ xs (joined p (σ .gap) r)
   turn-more Nothing a = all a
   turn-more (Found q) a =
       record {
@@ -105,6 +107,23 @@ module _ {σ : Series} {xs : List ℕ} {p : Part} {ys zs : List ℕ} (turn : Tur
         more = λ {r = r} e t f next. rw (← joined-assoc p q (σ .gap) (σ .gap) r) (all (a .more (skipped (q .used) e) t f next));
       }
 
-  pub turn-less : (r : Read) → left xs (joined p (σ .gap) r) < left xs (Found p)
-  turn-less Nothing = omega arith
-  turn-less (Found q) = omega (arith, turn-split, σ .some)
+module _ {σ : Series} {xs : List ℕ} where
+  pub ahead-short : {r : Read} {zs : List ℕ} → Ahead σ xs r zs → length zs ≤ length xs
+  ahead-short first = omega arith
+  ahead-short (later turn) = omega (arith, turn-split turn)
+
+  pub ahead-fit : {r q : Read} {zs : List ℕ} → length xs < 2 ^ 64 → Ahead σ xs r zs → Within q zs → FitBehind r (σ .gap) q
+  ahead-fit l first w = tt
+  ahead-fit l (later turn) w = fit l (turn-split turn) w
+
+  pub ahead-more : {r : Read} {zs : List ℕ} → Ahead σ xs r zs → (q : Read) → SoFar σ zs q → SoFar σ xs (behind r (σ .gap) q)
+  ahead-more first q a = a
+  ahead-more (later turn) q a = turn-more turn q a
+
+  passed : {r : Read} {zs : List ℕ} {p : Part} → Ahead σ xs r zs → (q : Read) → behind r (σ .gap) q ≡ Found p → length xs ≤ p .used + length zs
+  passed first q e = omega arith
+  passed (later turn) Nothing e = let z : _≡_ {A = ℕ} 0 1 = cc in absurd (omega arith)
+  passed (later turn) (Found q) e = omega (arith, turn-split turn, ap bytesOf e)
+
+  pub ahead-less : {r : Read} {zs us : List ℕ} {p : Part} → Ahead σ xs r zs → (q : Read) → behind r (σ .gap) q ≡ Found p → Turn σ xs p us → length us < length zs
+  ahead-less ahead q e turn = omega (arith, passed ahead q e, turn-split turn, σ .some)

@@ -4,7 +4,7 @@ use super::Read;
 ghost use mathlib.Core.Path.{_≡_};
 ghost use mathlib.Core.Bool.{true};
 ghost use Prim.Native.Nat.{_+_, _<_, _^_};
-ghost use Rattle.plain.specs.Parts.{bytesOf, Fit, Within, leaf, found, joined, divided, scripted, closed, grouped};
+ghost use Rattle.plain.specs.Parts.{bytesOf, Fit, FitBehind, Within, leaf, found, joined, behind, divided, scripted, closed, grouped};
 
 // A part, `gap` bytes and the part after them.
 pub fn joined(p: Part, gap: usize, r: Read) -> Read
@@ -22,6 +22,17 @@ pub fn joined(p: Part, gap: usize, r: Read) -> Read
         slashless: p.slashless & q.slashless,
         scriptless: p.scriptless & q.scriptless,
     })
+}
+
+// What was read behind `front` and a gap, joined to it. With nothing in front, it stands by itself.
+pub fn behind(front: Read, gap: usize, r: Read) -> Read
+    requires { ⌜ FitBehind front gap r ⌝ }
+    ensures { λ a. ⌜ a ≡ behind front gap r ⌝ }
+{
+    let Read::Found(p) = front else {
+        return r;
+    };
+    joined(p, gap, r)
 }
 
 // A numerator, the slash and the denominator. The numerator holds no slash, and neither is an atom in parentheses.

@@ -10,32 +10,40 @@ ghost use Rattle.plain.specs.Readers.{Answers, readSum, readProduct, rea
 pub fn sum(s: &[u8]) -> Read
     ensures { λ r. ⌜ Answers readSum 4 (now (s .entry)) r ⌝ }
 {
-    let mut r = product(s);
-    while let Read::Found(p) = r {
+    let mut r = Read::Nothing;
+    let mut t = s;
+    loop {
+        r = joins::behind(r, 3, product(t));
+        let Read::Found(p) = r else {
+            return Read::Nothing;
+        };
         let n = p.used;
-        let t = tokens::rest(s, n);
-        if !tokens::sign_next(t) {
+        let u = tokens::rest(s, n);
+        if !tokens::sign_next(u) {
             return r;
         }
-        r = joins::joined(p, 3, product(tokens::rest(t, 3)));
+        t = tokens::rest(u, 3);
     }
-    r
 }
 
 // A product: factors with one space between them.
 fn product(s: &[u8]) -> Read
     ensures { λ r. ⌜ Answers readProduct 3 (now (s .entry)) r ⌝ }
 {
-    let mut r = factor(s);
-    while let Read::Found(p) = r {
+    let mut r = Read::Nothing;
+    let mut t = s;
+    loop {
+        r = joins::behind(r, 1, factor(t));
+        let Read::Found(p) = r else {
+            return Read::Nothing;
+        };
         let n = p.used;
-        let t = tokens::rest(s, n);
-        if !tokens::factor_next(t) {
+        let u = tokens::rest(s, n);
+        if !tokens::factor_next(u) {
             return r;
         }
-        r = joins::joined(p, 1, factor(tokens::rest(t, 1)));
+        t = tokens::rest(u, 1);
     }
-    r
 }
 
 // A factor: an atom with its scripts, a fraction, or a sum in parentheses.

@@ -34,7 +34,7 @@ use Rattle.plain.proofs.readers.+factor+operand+product+script+scripts+
 use Rattle.plain.proofs.readers.+factor+operand+product+script+scripts+sum.Tie.{close}
 use Rattle.plain.proofs.readers.+factor+operand+product+script+scripts+sum.Proof.Cycle.{μ-factor, μ-operand, μ-product, μ-script, μ-scripts, μ-sum, factor-at, operand-at, product-at, script-at, scripts-at, sum-at, factor-calls, operand-calls, product-calls, script-calls, scripts-calls, sum-calls}
 use Rattle.plain.proofs.readers.+factor+operand+product+script+scripts+sum.Proof.Scripts.{script-symbol-requires, script-leaf-requires, script-returns, script-rest-requires, script-symbol-requires-2, script-is-alnum-requires, script-leaf-requires-2, script-returns-2, script-operand-requires, script-grouped-requires, script-returns-3, scripts-script-requires, scripts-enum-known-p, scripts-enum-told, scripts-returns, scripts-rest-requires, scripts-script-requires-2, scripts-joined-requires, scripts-returns-2}
-use Rattle.plain.proofs.readers.+factor+operand+product+script+scripts+sum.Proof.Series.{product-Inv-loop, product-μ-loop, product-factor-requires, product-loop-holds, product-enum-known-r, product-rest-requires, product-factor-next-requires, product-returns, product-rest-requires-2, product-factor-requires-2, product-joined-requires, product-loop-less, product-loop-again, product-enum-told, product-returns-2, sum-Inv-loop, sum-μ-loop, sum-product-requires, sum-loop-holds, sum-enum-known-r, sum-rest-requires, sum-sign-next-requires, sum-returns, sum-rest-requires-2, sum-product-requires-2, sum-joined-requires, sum-loop-less, sum-loop-again, sum-enum-told, sum-returns-2}
+use Rattle.plain.proofs.readers.+factor+operand+product+script+scripts+sum.Proof.Series.{product-Inv-loop, product-μ-loop, product-loop-holds, product-factor-requires, product-behind-requires, product-enum-known-r, product-enum-told, product-returns, product-rest-requires, product-factor-next-requires, product-returns-2, product-rest-requires-2, product-loop-less, product-loop-again, sum-Inv-loop, sum-μ-loop, sum-loop-holds, sum-product-requires, sum-behind-requires, sum-enum-known-r, sum-enum-told, sum-returns, sum-rest-requires, sum-sign-next-requires, sum-returns-2, sum-rest-requires-2, sum-loop-less, sum-loop-again}
 
 -- the atom that comes next, with no slash behind it
 factor-atom : (t : ℕ) (c : factor-lts.Then1 (factor-calls t) (factor-at t) factor.Post)
@@ -187,16 +187,16 @@ pub +factor+operand+product+script+scripts+sum-spec : {M : Type 1} → statement
     (λ t. operand-lts.spec (operand-calls t) (operand-at t) operand.Post (operand-atom-requires t) (operand-leaf-requires t)
     (operand-returns t) (operand-symbol-requires t) (operand-rest-requires t) (operand-sum-requires t) (operand-closed-requires t)
     (operand-returns-2 t) (operand-returns-3 t))
-    (λ t. product-lts.spec (product-calls t) (product-at t) product.Post product-Inv-loop product-μ-loop (product-factor-requires t)
-    (product-loop-holds t) (product-enum-known-r t) (product-rest-requires t) (product-factor-next-requires t) (product-returns t)
-    (product-rest-requires-2 t) (product-factor-requires-2 t) (product-joined-requires t) (product-loop-less t) (product-loop-again t)
-    (product-enum-told t) (product-returns-2 t))
+    (λ t. product-lts.spec (product-calls t) (product-at t) product.Post product-Inv-loop product-μ-loop (product-loop-holds t)
+    (product-factor-requires t) (product-behind-requires t) (product-enum-known-r t) (product-enum-told t) (product-returns t)
+    (product-rest-requires t) (product-factor-next-requires t) (product-returns-2 t) (product-rest-requires-2 t) (product-loop-less t)
+    (product-loop-again t))
     (λ t. script-lts.spec (script-calls t) (script-at t) script.Post (script-symbol-requires t) (script-leaf-requires t) (script-returns t)
     (script-rest-requires t) (script-symbol-requires-2 t) (script-is-alnum-requires t) (script-leaf-requires-2 t) (script-returns-2 t)
     (script-operand-requires t) (script-grouped-requires t) (script-returns-3 t))
     (λ t. scripts-lts.spec (scripts-calls t) (scripts-at t) scripts.Post (scripts-script-requires t) (scripts-enum-known-p t)
     (scripts-enum-told t) (scripts-returns t) (scripts-rest-requires t) (scripts-script-requires-2 t) (scripts-joined-requires t)
     (scripts-returns-2 t))
-    λ t. sum-lts.spec (sum-calls t) (sum-at t) sum.Post sum-Inv-loop sum-μ-loop (sum-product-requires t) (sum-loop-holds t)
-    (sum-enum-known-r t) (sum-rest-requires t) (sum-sign-next-requires t) (sum-returns t) (sum-rest-requires-2 t)
-    (sum-product-requires-2 t) (sum-joined-requires t) (sum-loop-less t) (sum-loop-again t) (sum-enum-told t) (sum-returns-2 t)
+    λ t. sum-lts.spec (sum-calls t) (sum-at t) sum.Post sum-Inv-loop sum-μ-loop (sum-loop-holds t) (sum-product-requires t)
+    (sum-behind-requires t) (sum-enum-known-r t) (sum-enum-told t) (sum-returns t) (sum-rest-requires t) (sum-sign-next-requires t)
+    (sum-returns-2 t) (sum-rest-requires-2 t) (sum-loop-less t) (sum-loop-again t)

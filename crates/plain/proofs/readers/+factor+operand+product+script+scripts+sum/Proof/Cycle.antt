@@ -24,6 +24,7 @@ use Rattle.plain.proofs.readers.sum.Kinds as sum-kinds
 use Rattle.plain.proofs.readers.+factor+operand+product+script+scripts+sum.Lts-sum as sum-lts
 use Rattle.plain.proofs.tokens.atom.Reads as atom-reads
 use Rattle.search.proofs.symbol.Reads as symbol-reads
+use Rattle.plain.proofs.joins.behind.Reads as behind-reads
 use Rattle.plain.proofs.joins.closed.Reads as closed-reads
 use Rattle.plain.proofs.tokens.factor_next.Reads as factor-next-reads
 use Rattle.plain.proofs.joins.divided.Reads as divided-reads
@@ -96,7 +97,7 @@ abbrev pub operand-calls : (t : ℕ) → operand-lts.Claims
 operand-calls t = (atom-reads.Asked, atom-reads.Learnt, leaf-reads.Asked, leaf-reads.Learnt, symbol-reads.Asked, symbol-reads.Learnt, rest-reads.Asked, rest-reads.Learnt, sum-below t, sum.Post, closed-reads.Asked, closed-reads.Learnt)
 
 abbrev pub product-calls : (t : ℕ) → product-lts.Claims
-product-calls t = (factor-below t, factor.Post, rest-reads.Asked, rest-reads.Learnt, factor-next-reads.Asked, factor-next-reads.Learnt, joined-reads.Asked, joined-reads.Learnt)
+product-calls t = (factor-below t, factor.Post, behind-reads.Asked, behind-reads.Learnt, rest-reads.Asked, rest-reads.Learnt, factor-next-reads.Asked, factor-next-reads.Learnt)
 
 abbrev pub script-calls : (t : ℕ) → script-lts.Claims
 script-calls t = (symbol-reads.Asked, symbol-reads.Learnt, leaf-reads.Asked, leaf-reads.Learnt, rest-reads.Asked, rest-reads.Learnt, is-alnum-reads.Asked, is-alnum-reads.Learnt, operand-below t, operand.Post, grouped-reads.Asked, grouped-reads.Learnt)
@@ -105,4 +106,4 @@ abbrev pub scripts-calls : (t : ℕ) → scripts-lts.Claims
 scripts-calls t = (script-below t, script.Post, rest-reads.Asked, rest-reads.Learnt, joined-reads.Asked, joined-reads.Learnt)
 
 abbrev pub sum-calls : (t : ℕ) → sum-lts.Claims
-sum-calls t = (product-below t, product.Post, rest-reads.Asked, rest-reads.Learnt, sign-next-reads.Asked, sign-next-reads.Learnt, joined-reads.Asked, joined-reads.Learnt)
+sum-calls t = (product-below t, product.Post, behind-reads.Asked, behind-reads.Learnt, rest-reads.Asked, rest-reads.Learnt, sign-next-reads.Asked, sign-next-reads.Learnt)

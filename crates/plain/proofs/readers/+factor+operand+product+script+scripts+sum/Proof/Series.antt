@@ -2,10 +2,10 @@
 use Prim.Native.Nat.{ℕ}
 use native.Mathlib.Omega.{arith}
 use mathlib.Core.Path.{sym, _∙_}
+use lib.ListN.{length}
 use borrow.Author.Needs.{needs}
 use borrow.Author.Tests.{not-true, not-false}
-use Rattle.plain.specs.Steps.{fit}
-use Rattle.plain.specs.Series.{sums, products, Begun, SoFar, Turn, begun-sum, begun-product, left, turn-split, turn-more, turn-less}
+use Rattle.plain.specs.Series.{sums, products, Begun, SoFar, Turn, Ahead, first, later, begun-sum, begun-product, ahead-short, ahead-fit, ahead-more, ahead-less}
 use Rattle.plain.proofs.readers.product.Reads as product
 use Rattle.plain.proofs.readers.+factor+operand+product+script+scripts+sum.Lts-product as product-lts
 use Rattle.plain.proofs.readers.sum.Reads as sum
@@ -14,36 +14,57 @@ use Rattle.plain.proofs.readers.+factor+operand+product+script+scripts+
 
 -- ---- products
 abbrev pub product-Inv-loop : product-lts.InvT-loop
-product-Inv-loop s r₀ r = SoFar products s r
+product-Inv-loop s r₀ t₀ r t = Ahead products s r t
 
 abbrev pub product-μ-loop : product-lts.MeasureT-loop
-product-μ-loop s r₀ r = left s r
+product-μ-loop s r₀ t₀ r t = length t
+
+-- what has been read
+product-so-far : (t : ℕ) (c : product-lts.After-behind (product-calls t) (product-at t) product.Post product-Inv-loop product-μ-loop) → (let head = c .before .before in let start = head .before .before in SoFar products (start .args .s .now) (c .behind .result))
+product-so-far t c =
+    let head = c .before .before in
+    let read = c .before .factor in
+    rw (c .behind .ensures) (ahead-more (head .loop .inv) (read .result) (begun-product (read .result) (read .ensures)))
 
 product-begun : (t : ℕ) (c : product-lts.After-r (product-calls t) (product-at t) product.Post product-Inv-loop product-μ-loop)
-    → (let head = c .before .before in let start = head .before .before .before in Begun products (start .args .s .now) (c .r .given .0 .0))
-product-begun t c = rw (c .r .given .1) at (c .before .before .loop .inv)
+    → (let behind = c .before .before in let head = behind .before .before in let start = head .before .before in Begun products (start .args .s .now) (c .r .given .0 .0))
+product-begun t c = rw (c .r .given .1) at (product-so-far t (c .before .before))
 
+-- what is read next
 product-turn : (t : ℕ) (c : product-lts.After-rest2 (product-calls t) (product-at t) product.Post product-Inv-loop product-μ-loop)
-    → (let rest = c .before .before .before in let found = rest .before .before in let head = found .before .before in let start = head .before .before .before in
-    Turn products (start .args .s .now) (found .r .given .0 .0) (rest .rest .result .now) (c .rest2 .result .now))
+    → (let rest = c .before .before .before in let found = rest .before .before in let behind = found .before .before in let head = behind .before .before in let start = head .before .before in
+    Turn products (start .args .s .now) (found .r .given .0 .0) (c .rest2 .result .now))
 product-turn t c =
     let next = c .before .before in
     let rest = next .before in
     record {
       begun = product-begun t (rest .before .before);
+      rest = rest .rest .result .now;
       behind = rest .rest .ensures;
       comes = sym (next .factor-next .ensures) ∙ not-false _ (c .before .if1 .left);
       after = c .rest2 .ensures;
     }
 
-pub product-factor-requires : (t : ℕ) → product-lts.Need-factor-requires (product-calls t) (product-at t) product.Post product-Inv-loop product-μ-loop
-product-factor-requires t c κs = omega arith
-
 pub product-loop-holds : (t : ℕ) → product-lts.Need-loop-holds (product-calls t) (product-at t) product.Post product-Inv-loop product-μ-loop
-product-loop-holds t c = begun-product (c .factor .result) (c .factor .ensures)
+product-loop-holds t c = first
+
+pub product-factor-requires : (t : ℕ) → product-lts.Need-factor-requires (product-calls t) (product-at t) product.Post product-Inv-loop product-μ-loop
+product-factor-requires t c κs = omega (arith, ahead-short (c .loop .inv))
+
+pub product-behind-requires : (t : ℕ) → product-lts.Need-behind-requires (product-calls t) (product-at t) product.Post product-Inv-loop product-μ-loop
+product-behind-requires t c κs =
+    let head = c .before in
+    let start = head .before .before in
+    ahead-fit (start .good .0 .0) (head .loop .inv) (c .factor .ensures .within)
 
 pub product-enum-known-r : (t : ℕ) → product-lts.Need-enum-known-r (product-calls t) (product-at t) product.Post product-Inv-loop product-μ-loop
 product-enum-known-r t c = search needs
+
+pub product-enum-told : (t : ℕ) → product-lts.Need-enum-told (product-calls t) (product-at t) product.Post product-Inv-loop product-μ-loop
+product-enum-told t c = search needs
+
+pub product-returns : (t : ℕ) → product-lts.Need-returns (product-calls t) (product-at t) product.Post product-Inv-loop product-μ-loop
+product-returns t c = rw (c .enum-told .given .1) at (product-so-far t (c .before .before))
 
 pub product-rest-requires : (t : ℕ) → product-lts.Need-rest-requires (product-calls t) (product-at t) product.Post product-Inv-loop product-μ-loop
 product-rest-requires t c κs = search needs
@@ -51,75 +72,78 @@ product-rest-requires t c κs = search needs
 pub product-factor-next-requires : (t : ℕ) → product-lts.Need-factor-next-requires (product-calls t) (product-at t) product.Post product-Inv-loop product-μ-loop
 product-factor-next-requires t c κs = search needs
 
-pub product-returns : (t : ℕ) → product-lts.Need-returns (product-calls t) (product-at t) product.Post product-Inv-loop product-μ-loop
-product-returns t c =
+pub product-returns-2 : (t : ℕ) → product-lts.Need-returns-2 (product-calls t) (product-at t) product.Post product-Inv-loop product-μ-loop
+product-returns-2 t c =
     let rest = c .before .before in
     product-begun t (rest .before .before) .done (rest .rest .ensures) (sym (c .before .factor-next .ensures) ∙ not-true _ (c .if1 .taken))
 
 pub product-rest-requires-2 : (t : ℕ) → product-lts.Need-rest-requires-2 (product-calls t) (product-at t) product.Post product-Inv-loop product-μ-loop
 product-rest-requires-2 t c κs = search needs
 
-pub product-factor-requires-2 : (t : ℕ) → product-lts.Need-factor-requires-2 (product-calls t) (product-at t) product.Post product-Inv-loop product-μ-loop
-product-factor-requires-2 t c κs = omega (arith, turn-split (product-turn t c))
-
-pub product-joined-requires : (t : ℕ) → product-lts.Need-joined-requires (product-calls t) (product-at t) product.Post product-Inv-loop product-μ-loop
-product-joined-requires t c κs =
-    let next = c .before .before .before in
-    let found = next .before .before .before in
-    let head = found .before .before in
-    let start = head .before .before .before in
-    fit (start .good .0 .0) (turn-split (product-turn t (c .before))) (c .factor2 .ensures .within)
-
 pub product-loop-less : (t : ℕ) → product-lts.Need-loop-less (product-calls t) (product-at t) product.Post product-Inv-loop product-μ-loop
 product-loop-less t c =
-    let rest2 = c .before .before in
-    let next = rest2 .before .before in
-    let found = next .before .before .before in
-    rw (c .joined .ensures, found .r .given .1) (turn-less (product-turn t rest2) (c .before .factor2 .result))
+    let rest = c .before .before .before in
+    let found = rest .before .before in
+    let behind = found .before .before in
+    let head = behind .before .before in
+    ahead-less (head .loop .inv) (behind .before .factor .result) (sym (behind .behind .ensures) ∙ found .r .given .1) (product-turn t c)
 
 pub product-loop-again : (t : ℕ) → product-lts.Need-loop-again (product-calls t) (product-at t) product.Post product-Inv-loop product-μ-loop
-product-loop-again t c =
-    let read = c .before .factor2 in
-    rw (c .joined .ensures) (turn-more (product-turn t (c .before .before)) (read .result) (begun-product (read .result) (read .ensures)))
-
-pub product-enum-told : (t : ℕ) → product-lts.Need-enum-told (product-calls t) (product-at t) product.Post product-Inv-loop product-μ-loop
-product-enum-told t c = search needs
-
-pub product-returns-2 : (t : ℕ) → product-lts.Need-returns-2 (product-calls t) (product-at t) product.Post product-Inv-loop product-μ-loop
-product-returns-2 t c = rw (c .enum-told .given .1) (rw (c .enum-told .given .1) at (c .before .before .loop .inv))
+product-loop-again t c = later (product-turn t c)
 
 -- ---- sums
 abbrev pub sum-Inv-loop : sum-lts.InvT-loop
-sum-Inv-loop s r₀ r = SoFar sums s r
+sum-Inv-loop s r₀ t₀ r t = Ahead sums s r t
 
 abbrev pub sum-μ-loop : sum-lts.MeasureT-loop
-sum-μ-loop s r₀ r = left s r
+sum-μ-loop s r₀ t₀ r t = length t
+
+-- what has been read
+sum-so-far : (t : ℕ) (c : sum-lts.After-behind (sum-calls t) (sum-at t) sum.Post sum-Inv-loop sum-μ-loop) → (let head = c .before .before in let start = head .before .before in SoFar sums (start .args .s .now) (c .behind .result))
+sum-so-far t c =
+    let head = c .before .before in
+    let read = c .before .product in
+    rw (c .behind .ensures) (ahead-more (head .loop .inv) (read .result) (begun-sum (read .result) (read .ensures)))
 
 sum-begun : (t : ℕ) (c : sum-lts.After-r (sum-calls t) (sum-at t) sum.Post sum-Inv-loop sum-μ-loop)
-    → (let head = c .before .before in let start = head .before .before .before in Begun sums (start .args .s .now) (c .r .given .0 .0))
-sum-begun t c = rw (c .r .given .1) at (c .before .before .loop .inv)
+    → (let behind = c .before .before in let head = behind .before .before in let start = head .before .before in Begun sums (start .args .s .now) (c .r .given .0 .0))
+sum-begun t c = rw (c .r .given .1) at (sum-so-far t (c .before .before))
 
+-- what is read next
 sum-turn : (t : ℕ) (c : sum-lts.After-rest2 (sum-calls t) (sum-at t) sum.Post sum-Inv-loop sum-μ-loop)
-    → (let rest = c .before .before .before in let found = rest .before .before in let head = found .before .before in let start = head .before .before .before in
-    Turn sums (start .args .s .now) (found .r .given .0 .0) (rest .rest .result .now) (c .rest2 .result .now))
+    → (let rest = c .before .before .before in let found = rest .before .before in let behind = found .before .before in let head = behind .before .before in let start = head .before .before in
+    Turn sums (start .args .s .now) (found .r .given .0 .0) (c .rest2 .result .now))
 sum-turn t c =
     let next = c .before .before in
     let rest = next .before in
     record {
       begun = sum-begun t (rest .before .before);
+      rest = rest .rest .result .now;
       behind = rest .rest .ensures;
       comes = sym (next .sign-next .ensures) ∙ not-false _ (c .before .if1 .left);
       after = c .rest2 .ensures;
     }
 
-pub sum-product-requires : (t : ℕ) → sum-lts.Need-product-requires (sum-calls t) (sum-at t) sum.Post sum-Inv-loop sum-μ-loop
-sum-product-requires t c κs = omega arith
-
 pub sum-loop-holds : (t : ℕ) → sum-lts.Need-loop-holds (sum-calls t) (sum-at t) sum.Post sum-Inv-loop sum-μ-loop
-sum-loop-holds t c = begun-sum (c .product .result) (c .product .ensures)
+sum-loop-holds t c = first
+
+pub sum-product-requires : (t : ℕ) → sum-lts.Need-product-requires (sum-calls t) (sum-at t) sum.Post sum-Inv-loop sum-μ-loop
+sum-product-requires t c κs = omega (arith, ahead-short (c .loop .inv))
+
+pub sum-behind-requires : (t : ℕ) → sum-lts.Need-behind-requires (sum-calls t) (sum-at t) sum.Post sum-Inv-loop sum-μ-loop
+sum-behind-requires t c κs =
+    let head = c .before in
+    let start = head .before .before in
+    ahead-fit (start .good .0 .0) (head .loop .inv) (c .product .ensures .within)
 
 pub sum-enum-known-r : (t : ℕ) → sum-lts.Need-enum-known-r (sum-calls t) (sum-at t) sum.Post sum-Inv-loop sum-μ-loop
 sum-enum-known-r t c = search needs
+
+pub sum-enum-told : (t : ℕ) → sum-lts.Need-enum-told (sum-calls t) (sum-at t) sum.Post sum-Inv-loop sum-μ-loop
+sum-enum-told t c = search needs
+
+pub sum-returns : (t : ℕ) → sum-lts.Need-returns (sum-calls t) (sum-at t) sum.Post sum-Inv-loop sum-μ-loop
+sum-returns t c = rw (c .enum-told .given .1) at (sum-so-far t (c .before .before))
 
 pub sum-rest-requires : (t : ℕ) → sum-lts.Need-rest-requires (sum-calls t) (sum-at t) sum.Post sum-Inv-loop sum-μ-loop
 sum-rest-requires t c κs = search needs
@@ -127,39 +151,21 @@ sum-rest-requires t c κs = search needs
 pub sum-sign-next-requires : (t : ℕ) → sum-lts.Need-sign-next-requires (sum-calls t) (sum-at t) sum.Post sum-Inv-loop sum-μ-loop
 sum-sign-next-requires t c κs = search needs
 
-pub sum-returns : (t : ℕ) → sum-lts.Need-returns (sum-calls t) (sum-at t) sum.Post sum-Inv-loop sum-μ-loop
-sum-returns t c =
+pub sum-returns-2 : (t : ℕ) → sum-lts.Need-returns-2 (sum-calls t) (sum-at t) sum.Post sum-Inv-loop sum-μ-loop
+sum-returns-2 t c =
     let rest = c .before .before in
     sum-begun t (rest .before .before) .done (rest .rest .ensures) (sym (c .before .sign-next .ensures) ∙ not-true _ (c .if1 .taken))
 
 pub sum-rest-requires-2 : (t : ℕ) → sum-lts.Need-rest-requires-2 (sum-calls t) (sum-at t) sum.Post sum-Inv-loop sum-μ-loop
 sum-rest-requires-2 t c κs = search needs
 
-pub sum-product-requires-2 : (t : ℕ) → sum-lts.Need-product-requires-2 (sum-calls t) (sum-at t) sum.Post sum-Inv-loop sum-μ-loop
-sum-product-requires-2 t c κs = omega (arith, turn-split (sum-turn t c))
-
-pub sum-joined-requires : (t : ℕ) → sum-lts.Need-joined-requires (sum-calls t) (sum-at t) sum.Post sum-Inv-loop sum-μ-loop
-sum-joined-requires t c κs =
-    let next = c .before .before .before in
-    let found = next .before .before .before in
-    let head = found .before .before in
-    let start = head .before .before .before in
-    fit (start .good .0 .0) (turn-split (sum-turn t (c .before))) (c .product2 .ensures .within)
-
 pub sum-loop-less : (t : ℕ) → sum-lts.Need-loop-less (sum-calls t) (sum-at t) sum.Post sum-Inv-loop sum-μ-loop
 sum-loop-less t c =
-    let rest2 = c .before .before in
-    let next = rest2 .before .before in
-    let found = next .before .before .before in
-    rw (c .joined .ensures, found .r .given .1) (turn-less (sum-turn t rest2) (c .before .product2 .result))
+    let rest = c .before .before .before in
+    let found = rest .before .before in
+    let behind = found .before .before in
+    let head = behind .before .before in
+    ahead-less (head .loop .inv) (behind .before .product .result) (sym (behind .behind .ensures) ∙ found .r .given .1) (sum-turn t c)
 
 pub sum-loop-again : (t : ℕ) → sum-lts.Need-loop-again (sum-calls t) (sum-at t) sum.Post sum-Inv-loop sum-μ-loop
-sum-loop-again t c =
-    let read = c .before .product2 in
-    rw (c .joined .ensures) (turn-more (sum-turn t (c .before .before)) (read .result) (begun-sum (read .result) (read .ensures)))
-
-pub sum-enum-told : (t : ℕ) → sum-lts.Need-enum-told (sum-calls t) (sum-at t) sum.Post sum-Inv-loop sum-μ-loop
-sum-enum-told t c = search needs
-
-pub sum-returns-2 : (t : ℕ) → sum-lts.Need-returns-2 (sum-calls t) (sum-at t) sum.Post sum-Inv-loop sum-μ-loop
-sum-returns-2 t c = rw (c .enum-told .given .1) (rw (c .enum-told .given .1) at (c .before .before .loop .inv))
+sum-loop-again t c = later (sum-turn t c)
