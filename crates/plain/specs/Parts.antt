@@ -26,7 +26,7 @@ pub record Fit (p : Part) (gap : ℕ) (r : Read) : Type 0 where
   pub bytes : p .used + gap + bytesOf r < 2 ^ 64
   pub atoms : p .atoms + atomsOf r < 2 ^ 64
 
--- the same where there may be nothing before
+-- the same where there may be nothing in front
 abbrev pub FitBehind : Read → ℕ → Read → Type 0
 FitBehind Nothing gap r = Unit {0}
 FitBehind (Found p) gap r = Fit p gap r

@@ -63,7 +63,7 @@ module _ (σ : Series) where
     pub comes : σ .next rest ≡ true
     pub after : zs ≡ drop (σ .gap) rest
 
-  -- where the next part begins: at the first symbol where nothing has been read
+  -- the next part begins at zs, which is all of xs where nothing has been read
   pub data Ahead (xs : List ℕ) : Read → List ℕ → Type 0 where
     first : Ahead xs Nothing xs
     later : {p : Part} {zs : List ℕ} → Turn xs p zs → Ahead xs (Found p) zs

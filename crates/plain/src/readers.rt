@@ -1,5 +1,8 @@
 // A reader for each rule of the grammar. A sum holds factors and a factor may hold a sum, so the readers call each other; the unread
-// length falls. Products and factors are read by loops, so the calls nest no deeper than the parentheses.
+// length falls.
+//
+// Of stack: products and factors are read by loops, so calls nest no deeper than parentheses. A loop calls its reader at one place, so
+// that the two are compiled into one frame. An atom is read at two, so that the table of Greek names is in no frame that nests.
 use super::Read;
 use super::joins;
 use super::tokens;
@@ -10,6 +13,7 @@ ghost use Rattle.plain.specs.Readers.{Answers, readSum, readProduct, rea
 pub fn sum(s: &[u8]) -> Read
     ensures { λ r. ⌜ Answers readSum 4 (now (s .entry)) r ⌝ }
 {
+    // What has been read, and where the next product begins.
     let mut r = Read::Nothing;
     let mut t = s;
     loop {
@@ -30,6 +34,7 @@ pub fn sum(s: &[u8]) -> Read
 fn product(s: &[u8]) -> Read
     ensures { λ r. ⌜ Answers readProduct 3 (now (s .entry)) r ⌝ }
 {
+    // What has been read, and where the next factor begins.
     let mut r = Read::Nothing;
     let mut t = s;
     loop {
