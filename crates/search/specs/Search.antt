@@ -1,6 +1,7 @@
 -- What a search answers: an offset, or nothing. The definitions give the text that lies from there on, or behind it.
 --     onward, Finds        of a search whose offset is where the found text begins
 --     leftOver, Closes     of a search whose offset is a closer's or a comma's, and what it leaves over lies behind it
+--     Passed, Sought       of a search for one symbol
 --     Met                  the loop of `starts_with`: the pattern's first i symbols have been met
 -- Assumes nothing.
 use mathlib.Core.Path.{_≡_, refl, sym, ap, _∙_, subst}
@@ -73,22 +74,27 @@ module _ (f : ℕ → Bool) (s : List ℕ) (i : ℕ) where
   any-all false h = any-end f s i h
 
 -- ---- the next place of a symbol
--- from i on, the symbol stands at r for the first time, or nowhere
-pub record Sought (s : List ℕ) (i b r : ℕ) : Type 0 where
+-- the symbol does not stand from i up to r
+pub record Passed (s : List ℕ) (i b r : ℕ) : Type 0 where
   pub after : i ≤ r
   pub within : r ≤ length s
-  pub passed : (k : ℕ) → i ≤ k → k < r → getD s k 0 ≡ b → ⊥
+  pub absent : (k : ℕ) → i ≤ k → k < r → getD s k 0 ≡ b → ⊥
 
-pub sought-none : {s : List ℕ} {i b : ℕ} → i ≤ length s → Sought s i b i
-sought-none h = record { after = omega arith; within = h; passed = λ k h l. absurd (omega arith) }
+-- from i on, it stands at r for the first time, or nowhere, and then r is the end
+pub record Sought (s : List ℕ) (i b r : ℕ) : Type 0 where
+  pub passed : Passed s i b r
+  pub here : r < length s → getD s r 0 ≡ b
 
-pub sought-more : {s : List ℕ} {i b r : ℕ} → Sought s i b r → r < length s → (getD s r 0 ≡ b → ⊥) → Sought s i b (r + 1)
-sought-more {s} {i} {b} {r} q h other =
+pub passed-none : {s : List ℕ} {i b : ℕ} → i ≤ length s → Passed s i b i
+passed-none h = record { after = omega arith; within = h; absent = λ k h l. absurd (omega arith) }
+
+pub passed-more : {s : List ℕ} {i b r : ℕ} → Passed s i b r → r < length s → (getD s r 0 ≡ b → ⊥) → Passed s i b (r + 1)
+passed-more {s} {i} {b} {r} q h other =
     let a = q .after in
     record {
       after = omega arith;
       within = omega arith;
-      passed = λ k l m e. ⊎-elim (λ (z : k < r). q .passed k l z e) (λ (z : k ≡ r). other (ap (λ j. getD s j 0) (sym z) ∙ e)) (before k m);
+      absent = λ k l m e. ⊎-elim (λ (z : k < r). q .absent k l z e) (λ (z : k ≡ r). other (ap (λ j. getD s j 0) (sym z) ∙ e)) (before k m);
     }
   where
     before : (k : ℕ) → k < r + 1 → (k < r) ⊎ (k ≡ r)
@@ -111,21 +117,21 @@ absent-part s b (suc n) r h absent k l m e =
           | no z ↦ (let here : k ≡ r = omega arith in eqb-false (getD s r 0) b other (ap (λ j. getD s j 0) (sym here) ∙ e))
         ]
 
-pub sought-part :
-    {s : List ℕ} {i b k : ℕ} (n r : ℕ) → Sought s i b k → r ≤ k → k ≤ r + n → r + n ≤ length s → any (λ x. eqb x b) (part r n s) ≡ false
-    → Sought s i b (r + n)
-sought-part {s} {i} {b} {k} n r q l m h absent =
+pub passed-part :
+    {s : List ℕ} {i b k : ℕ} (n r : ℕ) → Passed s i b k → r ≤ k → k ≤ r + n → r + n ≤ length s → any (λ x. eqb x b) (part r n s) ≡ false
+    → Passed s i b (r + n)
+passed-part {s} {i} {b} {k} n r q l m h absent =
     let a = q .after in
     record {
       after = omega arith;
       within = h;
-      passed = λ j u v e. elim (decLt j k) [ yes z ↦ q .passed j u z e | no z ↦ absent-part s b n r h absent j (omega arith) v e ];
+      absent = λ j u v e. elim (decLt j k) [ yes z ↦ q .absent j u z e | no z ↦ absent-part s b n r h absent j (omega arith) v e ];
     }
 
 -- a pattern whose first symbol does not stand on the way is found from there on
-pub find-sought : (pattern s : List ℕ) {i first r : ℕ} → first ≡ getD pattern 0 0 → starts pattern (drop i s) ≡ false → i < length s → Sought s (i + 1) first r → find pattern (drop i s) ≡ find pattern (drop r s)
-find-sought [] s f other h q = absurd (false≢true (sym other))
-find-sought (k ∷ w) s {i} {first} {r} f other h q =
+pub find-passed : (pattern s : List ℕ) {i first r : ℕ} → first ≡ getD pattern 0 0 → starts pattern (drop i s) ≡ false → i < length s → Passed s (i + 1) first r → find pattern (drop i s) ≡ find pattern (drop r s)
+find-passed [] s f other h q = absurd (false≢true (sym other))
+find-passed (k ∷ w) s {i} {first} {r} f other h q =
     let after = q .after in find-drop (k ∷ w) s i h other ∙ go (r - (i + 1)) (i + 1) (omega arith) (omega arith)
   where
     go : (n j : ℕ) → j + n ≡ r → i + 1 ≤ j → find (k ∷ w) (drop j s) ≡ find (k ∷ w) (drop r s)
@@ -133,7 +139,7 @@ find-sought (k ∷ w) s {i} {first} {r} f other h q =
     go (suc n) j e l =
         let within = q .within in let less : j < r = omega arith in let here : j < length s = omega arith in
         find-drop (k ∷ w) s j here
-        (ap (starts (k ∷ w)) (drop-step s j here) ∙ starts-other k (getD s j 0) w (drop (j + 1) s) (λ same. q .passed j l less (same ∙ sym f)))
+        (ap (starts (k ∷ w)) (drop-step s j here) ∙ starts-other k (getD s j 0) w (drop (j + 1) s) (λ same. q .absent j l less (same ∙ sym f)))
         ∙ go n (j + 1) (omega arith) (omega arith)
 
 -- ---- whether a pattern occurs

@@ -5,7 +5,7 @@ ghost use Prim.Native.Nat.{_≤_};
 ghost use lib.Dec.{eqb};
 ghost use lib.ListN.{length, getD};
 ghost use Rattle.spec.specs.Symbols.{any, starts, find as found, contains as occurs};
-ghost use Rattle.search.specs.Search.{Finds, Sought};
+ghost use Rattle.search.specs.Search.{Finds, Passed, Sought};
 
 // What a search answers.
 pub enum Found {
@@ -41,9 +41,10 @@ fn is_among(block: &[u8], b: u8) -> bool
 }
 
 // Passes over 8 symbols at a time, from i on, as long as the symbol is not among them. The last 8 may overlap those before.
+// How far it comes is not said, only that the symbol was not passed over: the rest is `seek`'s.
 fn pass(s: &[u8], i: usize, b: u8) -> usize
     requires { ⌜ i ≤ length (now s) ⌝ }
-    ensures { λ r. ⌜ Sought (now (s .entry)) i b r ⌝ }
+    ensures { λ r. ⌜ Passed (now (s .entry)) i b r ⌝ }
 {
     let mut k = i;
     while 8 <= s.len() - k {

@@ -1,6 +1,6 @@
 -- `search::find` meets its contract. The loop's invariant: the pattern is found from place i on where it is found at all. Assumes nothing.
 use Rattle.symbols.specs.Parts.{rest-of}
-use Rattle.search.specs.Search.{find-sought}
+use Rattle.search.specs.Search.{find-passed}
 use Rattle.spec.specs.Laws.Symbols.{find-here, find-end}
 use Rattle.spec.specs.Symbols.{starts, find}
 use lib.ListN.{length, drop, length-drop}
@@ -49,14 +49,14 @@ seek-requires : tie.Need-seek-requires Inv-loop μ-loop
 seek-requires c κs = omega arith
 
 loop-less : tie.Need-loop-less Inv-loop μ-loop
-loop-less c = let after = c .seek .ensures .after in let within = c .seek .ensures .within in omega arith
+loop-less c = let after = c .seek .ensures .passed .after in let within = c .seek .ensures .passed .within in omega arith
 
 loop-again : tie.Need-loop-again Inv-loop μ-loop
 loop-again c =
     let l = c .before .before .before .before .before in
     let a = c .before .before .before .before .before .before .before .before .before .args in
     let other = sym (c .before .before .starts-with .ensures ∙ ap (starts (a .pattern .now)) (rest-of (l .loop .i) (a .s .now))) ∙ c .before .if1 .left in
-    (c .seek .ensures .within, l .loop .inv .1 ∙ find-sought (a .pattern .now) (a .s .now) (c .before .before .before .before .before .before .symbol .ensures) other (omega arith) (c .seek .ensures))
+    (c .seek .ensures .passed .within, l .loop .inv .1 ∙ find-passed (a .pattern .now) (a .s .now) (c .before .before .before .before .before .before .symbol .ensures) other (omega arith) (c .seek .ensures .passed))
 
 returns-2 : tie.Need-returns-2 Inv-loop μ-loop
 returns-2 c =

@@ -6,18 +6,18 @@ use lib.ListN.{length, length-take, length-drop}
 use native.Mathlib.Omega.{arith}
 use Rattle.spec.specs.Symbols.{any}
 use Rattle.symbols.specs.Parts.{part, whole-part}
-use Rattle.search.specs.Search.{Sought, sought-none, sought-part}
+use Rattle.search.specs.Search.{Passed, passed-none, passed-part}
 use Rattle.search.proofs.pass.Statement.{statement}
 use Rattle.search.proofs.pass.Tie as tie
 
 abbrev Inv-loop : tie.InvT-loop
-Inv-loop s i b k₀ k = Sought s i b k
+Inv-loop s i b k₀ k = Passed s i b k
 
 abbrev μ-loop : tie.MeasureT-loop
 μ-loop s i b k₀ k = length s - k
 
 loop-holds : tie.Need-loop-holds Inv-loop μ-loop
-loop-holds c = sought-none (c .before .pre)
+loop-holds c = passed-none (c .before .pre)
 
 sub-loop : tie.Need-sub-loop Inv-loop μ-loop
 sub-loop c = c .loop .inv .within
@@ -46,7 +46,7 @@ loop-less c = let w = c .before .before .before .before .loop .inv .within in om
 loop-again : tie.Need-loop-again Inv-loop μ-loop
 loop-again c =
     let a = c .before .before .before .before .before .before .args in let l = c .before .before .before .before .loop in let w = l .inv .within in
-    sought-part 8 (l .k) (l .inv) (omega arith) (omega arith) (omega arith) (ap (any (λ x. eqb x (a .b))) (sym (whole-part (l .k) 8 (a .s .now))) ∙ sym (c .before .is-among .ensures) ∙ c .if1 .left)
+    passed-part 8 (l .k) (l .inv) (omega arith) (omega arith) (omega arith) (ap (any (λ x. eqb x (a .b))) (sym (whole-part (l .k) 8 (a .s .now))) ∙ sym (c .before .is-among .ensures) ∙ c .if1 .left)
 
 returns-2 : tie.Need-returns-2 Inv-loop μ-loop
 returns-2 c = c .before .before .loop .inv
@@ -74,8 +74,8 @@ returns-4 c =
     let a = c .before .before .before .before .before .before .before .args in let l = c .before .before .before .before .before .loop in let w = l .inv .within in
     let long : length (a .s .now) - 8 + 8 ≡ length (a .s .now) = omega arith in
     let eight : length (a .s .now) - (length (a .s .now) - 8) ≡ 8 = omega arith in
-    subst (Sought (a .s .now) (a .i) (a .b)) long
-    (sought-part 8 (length (a .s .now) - 8) (l .inv) (omega arith) (omega arith) (omega arith)
+    subst (Passed (a .s .now) (a .i) (a .b)) long
+    (passed-part 8 (length (a .s .now) - 8) (l .inv) (omega arith) (omega arith) (omega arith)
     (ap (λ n. any (λ x. eqb x (a .b)) (part (length (a .s .now) - 8) n (a .s .now))) (sym eight) ∙ sym (c .before .is-among2 .ensures) ∙ c .if3 .left))
 
 pub pass-spec : {M : Type 1} → statement M

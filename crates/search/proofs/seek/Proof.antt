@@ -2,12 +2,12 @@
 use Prim.Native.Nat.{_-_}
 use lib.ListN.{length}
 use native.Mathlib.Omega.{arith}
-use Rattle.search.specs.Search.{Sought, sought-more}
+use Rattle.search.specs.Search.{Passed, passed-more}
 use Rattle.search.proofs.seek.Statement.{statement}
 use Rattle.search.proofs.seek.Tie as tie
 
 abbrev Inv-loop : tie.InvT-loop
-Inv-loop s i b k₀ k = Sought s i b k
+Inv-loop s i b k₀ k = Passed s i b k
 
 abbrev μ-loop : tie.MeasureT-loop
 μ-loop s i b k₀ k = length s - k
@@ -22,7 +22,7 @@ shared-slice-read-if1 : tie.Need-shared-slice-read-if1 Inv-loop μ-loop
 shared-slice-read-if1 c = omega arith
 
 returns : tie.Need-returns Inv-loop μ-loop
-returns c = c .before .before .before .loop .inv
+returns c = record { passed = c .before .before .before .loop .inv; here = λ h. c .if1 .taken }
 
 add-k : tie.Need-add-k Inv-loop μ-loop
 add-k c = omega arith
@@ -31,10 +31,10 @@ loop-less : tie.Need-loop-less Inv-loop μ-loop
 loop-less c = omega arith
 
 loop-again : tie.Need-loop-again Inv-loop μ-loop
-loop-again c = sought-more (c .before .before .before .loop .inv) (omega arith) (c .if1 .left)
+loop-again c = passed-more (c .before .before .before .loop .inv) (omega arith) (c .if1 .left)
 
 returns-2 : tie.Need-returns-2 Inv-loop μ-loop
-returns-2 c = c .before .loop .inv
+returns-2 c = record { passed = c .before .loop .inv; here = λ h. absurd (omega arith) }
 
 pub seek-spec : {M : Type 1} → statement M
 seek-spec =
