@@ -1,12 +1,12 @@
 -- The neighbours in a text, and patterns that are nowhere since two of their neighbours are none in the text.
 --     paired, pairs   the number of two neighbours, which some pairs share; those of a text
 --     Seen, SeenIn    a table with 1 at the number of each pair in a text, or in a formula on its way
---     Seeing          the same of the symbols up to a place
+--     Marked          a table in which those have been set to 1, and nothing else. `Marking`: those up to a place
 --     missing         whether a pair of the pattern has no 1
 --     nowhere         whether a pattern does not occur in a formula on its way
 -- Assumes nothing.
 use mathlib.Core.Path.{_≡_, refl, sym, ap, _∙_, subst}
-use mathlib.Core.Bool.{Bool, true, false, not, _&&_, _||_, and-false, false≢true}
+use mathlib.Core.Bool.{Bool, true, false, not, cond, _&&_, _||_, and-false, false≢true}
 use mathlib.Core.List.{List, [], _∷_}
 use mathlib.Core.Option.{Option, none, some}
 use Prim.Native.Nat.{ℕ, _+_, _-_, _*_, _≤_, _<_}
@@ -42,9 +42,21 @@ occurs k s = any (eqb k) (pairs s)
 pub record Seen (table s : List ℕ) : Type 0 where
   pub marked : (k : ℕ) → occurs k s ≡ true → getD table k 0 ≡ 1
 
--- of a refused formula nothing is asked
-pub record SeenIn (table w : List ℕ) (p : Progress) : Type 0 where
-  pub text : (at n : ℕ) → p ≡ Text at n → Seen table (part at n w)
+-- what `mark_pairs` ensures, and `mark` of the text of a formula on its way
+pub record Marked (table table′ s : List ℕ) : Type 0 where
+  pub long : length table′ ≡ length table
+  pub entry : (k : ℕ) → getD table′ k 0 ≡ cond (occurs k s) 1 (getD table k 0)
+
+-- a refused formula has none
+abbrev pub textOf : Progress → List ℕ → List ℕ
+textOf (Text at n) w = part at n w
+textOf (Refused k) w = []
+
+abbrev pub SeenIn : List ℕ → List ℕ → Progress → Type 0
+SeenIn table w p = Seen table (textOf p w)
+
+pub marked-seen : {table table′ s : List ℕ} → Marked table table′ s → Seen table′ s
+marked-seen {table} m = record { marked = λ k e. m .entry k ∙ ap (λ t. cond t 1 (getD table k 0)) e }
 
 abbrev pub missing : List ℕ → List ℕ → Bool
 missing table pattern = any (λ k. eqb (getD table k 0) 0) (pairs pattern)
@@ -65,29 +77,39 @@ module _ (s : List ℕ) (i : ℕ) where
       go (x ∷ []) h = refl
       go (x ∷ y ∷ t) h = absurd (omega arith)
 
-pub record Seeing (table s : List ℕ) (i : ℕ) : Type 0 where
-  pub marked : (k : ℕ) → occurs k s ≡ true → occurs k (drop (i - 1) s) ≡ false → getD table k 0 ≡ 1
+-- marking the pairs from the symbol before place i on would give the table that is asked
+pub record Marking (table table′ s : List ℕ) (i : ℕ) : Type 0 where
+  pub entry : (k : ℕ) → cond (occurs k (drop (i - 1) s)) 1 (getD table′ k 0) ≡ cond (occurs k s) 1 (getD table k 0)
 
-pub seeing-none : (table s : List ℕ) → Seeing table s 1
-seeing-none table s = record { marked = λ k e f. absurd (false≢true (sym f ∙ e)) }
+pub marking-none : (table s : List ℕ) → Marking table table s 1
+marking-none table s = record { entry = λ k. refl }
 
-pub seeing-more :
-    {table s : List ℕ} {i : ℕ} (k : ℕ) → Seeing table s i → 1 ≤ i → i < length s → k ≡ paired (getD s (i - 1) 0) (getD s i 0) → k < length table
-    → Seeing (set table k 1) s (i + 1)
-seeing-more {table} {s} {i} k r first h p l = record { marked = λ b e f. go b e f (eqb b k) refl }
+pub marking-more :
+    {table table′ s : List ℕ} {i : ℕ} (k : ℕ) → Marking table table′ s i → 1 ≤ i → i < length s → k ≡ paired (getD s (i - 1) 0) (getD s i 0) → k < length table′
+    → Marking table (set table′ k 1) s (i + 1)
+marking-more {table} {table′} {s} {i} k m first h p l = record { entry = λ b. go b (eqb b k) refl ∙ m .entry b }
   where
     here : i + 1 - 1 ≡ i
     here = omega arith
 
-    go : (b : ℕ) → occurs b s ≡ true → occurs b (drop (i + 1 - 1) s) ≡ false → (t : Bool) → eqb b k ≡ t → getD (set table k 1) b 0 ≡ 1
-    go b e f true same = ap (λ j. getD (set table k 1) j 0) (eqb-true b k same) ∙ getD-set-same table k 1 0 l
-    go b e f false other =
-        getD-set-other table k b 1 0 (eqb-false b k other)
-        ∙ r .marked b e
-        (ap (any (eqb b)) (pairs-next s i first h) ∙ ap (λ t. t || occurs b (drop i s)) (ap (eqb b) (sym p) ∙ other) ∙ ap (λ m. occurs b (drop m s)) (sym here) ∙ f)
+    both : (t : Bool) → _≡_ {A = ℕ} (cond t 1 1) 1
+    both true = refl
+    both false = refl
 
-pub seeing-all : {table s : List ℕ} {i : ℕ} → Seeing table s i → 1 ≤ i → length s ≤ i → Seen table s
-seeing-all {s = s} {i} r first h = record { marked = λ b e. r .marked b e (ap (any (eqb b)) (pairs-end s i first h)) }
+    go : (b : ℕ) (t : Bool) → eqb b k ≡ t → cond (occurs b (drop (i + 1 - 1) s)) 1 (getD (set table′ k 1) b 0) ≡ cond (occurs b (drop (i - 1) s)) 1 (getD table′ b 0)
+    go b t e =
+        ap (λ j. cond (occurs b (drop j s)) 1 (getD (set table′ k 1) b 0)) here
+        ∙ set-here t e
+        ∙ sym (ap (λ u. cond u 1 (getD table′ b 0)) (ap (any (eqb b)) (pairs-next s i first h) ∙ ap (λ u. u || occurs b (drop i s)) (ap (eqb b) (sym p) ∙ e)))
+      where
+        set-here : (t : Bool) → eqb b k ≡ t → cond (occurs b (drop i s)) 1 (getD (set table′ k 1) b 0) ≡ cond (t || occurs b (drop i s)) 1 (getD table′ b 0)
+        set-here true same =
+            ap (cond (occurs b (drop i s)) 1) (ap (λ j. getD (set table′ k 1) j 0) (eqb-true b k same) ∙ getD-set-same table′ k 1 0 l) ∙ both (occurs b (drop i s))
+        set-here false other = ap (cond (occurs b (drop i s)) 1) (getD-set-other table′ k b 1 0 (eqb-false b k other))
+
+pub marking-all : {table table′ s : List ℕ} {i : ℕ} → Marking table table′ s i → length table′ ≡ length table → 1 ≤ i → length s ≤ i → Marked table table′ s
+marking-all {table′ = table′} {s} {i} m long first h =
+    record { long = long; entry = λ k. sym (ap (λ t. cond t 1 (getD table′ k 0)) (ap (any (eqb k)) (pairs-end s i first h))) ∙ m .entry k }
 
 -- the same of the pattern
 module _ (table pattern : List ℕ) (i : ℕ) (first : 1 ≤ i) where
@@ -109,20 +131,11 @@ module _ (table pattern : List ℕ) (i : ℕ) (first : 1 ≤ i) where
   missing-end h = ap (any (λ j. eqb (getD table j 0) 0)) (pairs-end pattern i first h)
 
 -- ---- of a formula on its way
-abbrev place : Progress → List ℕ → List ℕ
-place (Text at n) w = part at n w
-place (Refused k) w = []
+pub marked-refused : {table : List ℕ} (w : List ℕ) {p : Progress} {k : Refusal} → p ≡ Refused k → Marked table table (textOf p w)
+marked-refused {table} w e = subst (Marked table table) (ap (λ q. textOf q w) (sym e)) (record { long = refl; entry = λ k. refl })
 
-abbrev isText : Progress → Bool
-isText (Text at n) = true
-isText (Refused k) = false
-
-pub seen-refused : {table w : List ℕ} {p : Progress} {k : Refusal} → p ≡ Refused k → SeenIn table w p
-seen-refused e = record { text = λ at n f. absurd (false≢true (ap isText (sym e ∙ f))) }
-
-pub seen-text : {table w : List ℕ} {p : Progress} {from n : ℕ} → p ≡ Text from n → Seen table (part from (from + n - from) w) → SeenIn table w p
-seen-text {table} {w} {from = from} {n} e seen =
-    record { text = λ at m f. subst (Seen table) (whole-part from n w ∙ ap (λ p. place p w) (sym e ∙ f)) seen }
+pub marked-text : {table table′ : List ℕ} (w : List ℕ) {p : Progress} {from n : ℕ} → p ≡ Text from n → Marked table table′ (part from (from + n - from) w) → Marked table table′ (textOf p w)
+marked-text {table} {table′} w {from = from} {n} e m = subst (Marked table table′) (whole-part from n w ∙ ap (λ q. textOf q w) (sym e)) m
 
 -- ---- a pattern with a pair that does not occur
 later : {table s : List ℕ} {x : ℕ} → Seen table (x ∷ s) → Seen table s
@@ -166,7 +179,7 @@ nowhere (Refused k) w pattern = true
 module _ (w pattern : List ℕ) {p : Progress} {from n : ℕ} (e : p ≡ Text from n) where
   pub nowhere-missing : {table : List ℕ} → SeenIn table w p → missing table pattern ≡ true → true ≡ nowhere p w pattern
   nowhere-missing {table} seen f =
-      ap (λ o. not (isSome o)) (sym (find-missing table pattern (part from n w) (seen .text from n e) f))
+      ap (λ o. not (isSome o)) (sym (find-missing table pattern (part from n w) (subst (λ q. SeenIn table w q) e seen) f))
       ∙ ap not (contains-find pattern (part from n w))
       ∙ ap (λ q. nowhere q w pattern) (sym e)
 

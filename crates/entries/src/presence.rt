@@ -4,7 +4,7 @@ use text::Progress;
 ghost use mathlib.Core.Path.{_≡_};
 ghost use lib.ListN.{length};
 ghost use Rattle.text.specs.Stage.{Ready};
-ghost use Rattle.entries.specs.Seen.{paired, Seen, SeenIn, missing, nowhere};
+ghost use Rattle.entries.specs.Seen.{paired, Marked, textOf, SeenIn, missing, nowhere};
 
 // The number of two neighbours. Some pairs share one.
 fn pair(a: u8, b: u8) -> usize
@@ -13,10 +13,10 @@ fn pair(a: u8, b: u8) -> usize
     2 * (a as usize) + (b as usize)
 }
 
-// Marks each pair that occurs with 1. What was marked before stays.
+// Marks each pair that occurs with 1. What was marked before stays, and so does what is not.
 fn mark_pairs(seen: &mut [u8; 768], s: &[u8])
     requires { ⌜ length (now seen) ≡ 768 ⌝ }
-    ensures { λ _. ⌜ (length (now (seen .exit)) ≡ 768) × Seen (now (seen .exit)) (now (s .entry)) ⌝ }
+    ensures { λ _. ⌜ Marked (now (seen .entry)) (now (seen .exit)) (now (s .entry)) ⌝ }
 {
     for i in 1..s.len() {
         let k = pair(s[i - 1], s[i]);
@@ -24,11 +24,11 @@ fn mark_pairs(seen: &mut [u8; 768], s: &[u8])
     }
 }
 
-// The same of a formula on its way. Of a refused one nothing is asked.
+// The same of a formula on its way. A refused one has no pairs.
 pub fn mark(seen: &mut [u8; 768], work: &[u8], text: Progress)
     requires { ⌜ length (now seen) ≡ 768 ⌝ }
     requires { ⌜ Ready (now work) text ⌝ }
-    ensures { λ _. ⌜ (length (now (seen .exit)) ≡ 768) × SeenIn (now (seen .exit)) (now (work .entry)) text ⌝ }
+    ensures { λ _. ⌜ Marked (now (seen .entry)) (now (seen .exit)) (textOf text (now (work .entry))) ⌝ }
 {
     let Progress::Text(from, n) = text else {
         return;

@@ -6,7 +6,7 @@ use native.Mathlib.Omega.{arith}
 use lib.ListN.{length}
 use Rattle.text.specs.Stage.{answered-ready}
 use Rattle.entries.specs.Sized.{staged-alike, Remaining, remaining-none, remaining-ready, remaining-more, remaining-all}
-use Rattle.entries.specs.Seen.{SeenIn}
+use Rattle.entries.specs.Seen.{SeenIn, marked-seen}
 use Rattle.replacements.specs.Rows.{rowAt, rowsFrom, rowsOf, fair-at, rows-all}
 use Rattle.replacements.specs.Kinds.{ruleOf, sizedRows, row-nowhere, rows-step, rows-end}
 use Rattle.replacements.proofs.apply_rows.Statement.{statement}
@@ -28,7 +28,7 @@ mark-requires c κs = (refl, c .before .before .before .before .pre .0)
 loop-holds : tie.Need-loop-holds Inv-loop μ-loop
 loop-holds c =
     let s = c .before .before .before .before .before in
-    (refl, remaining-none _ (s .pre .0) (s .pre .1 .0), c .mark .ensures .1, c .mark .ensures .0)
+    (refl, remaining-none _ (s .pre .0) (s .pre .1 .0), marked-seen (c .mark .ensures), c .mark .ensures .long)
 
 is-row-nowhere-requires : tie.Need-is-row-nowhere-requires Inv-loop μ-loop
 is-row-nowhere-requires c κs =
@@ -71,7 +71,7 @@ loop-again-2 c =
     let rule = ruleOf (a .kind) in let table = a .table .now in
     let rest = sizedRows (a .extra) rule (rowsFrom table (l .k + 1) (length table / 36 - (l .k + 1))) in
     let e = c .before .before .before .before .before .apply-row .ensures in
-    (e .staged .answered .long ∙ l .inv .0, remaining-more (l .inv .1) rest e (λ t. rows-step (a .extra) rule table (l .k) (length table / 36) t (c .before .before .before .before .before .before .before .before .before .before .before .loop-test .taken)), c .mark2 .ensures .1, c .mark2 .ensures .0)
+    (e .staged .answered .long ∙ l .inv .0, remaining-more (l .inv .1) rest e (λ t. rows-step (a .extra) rule table (l .k) (length table / 36) t (c .before .before .before .before .before .before .before .before .before .before .before .loop-test .taken)), marked-seen (c .mark2 .ensures), c .mark2 .ensures .long ∙ l .inv .3)
 
 same-length : tie.Need-same-length Inv-loop μ-loop
 same-length c = c .before .loop .inv .0

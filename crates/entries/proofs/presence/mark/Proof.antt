@@ -1,7 +1,7 @@
 -- `entries::presence::mark` meets its contract. Assumes nothing.
 use native.Mathlib.Omega.{arith}
 use Rattle.text.specs.Stage.{placed-fits}
-use Rattle.entries.specs.Seen.{seen-refused, seen-text}
+use Rattle.entries.specs.Seen.{marked-refused, marked-text}
 use borrow.Author.Needs.{needs}
 use Rattle.entries.proofs.presence.mark.Statement.{statement}
 use Rattle.entries.proofs.presence.mark.Tie as tie
@@ -13,7 +13,7 @@ enum-told : tie.Need-enum-told
 enum-told c = search needs
 
 returns : tie.Need-returns
-returns c = (c .before .before .before .pre .0, seen-refused (c .enum-told .given .1))
+returns c = marked-refused (c .before .before .before .args .work .now) (c .enum-told .given .1)
 
 add-end : tie.Need-add-end
 add-end c = let f = placed-fits (c .before .before .before .before .pre .1) (c .before .text .given .1) in omega arith
@@ -31,7 +31,7 @@ mark-pairs-requires : tie.Need-mark-pairs-requires
 mark-pairs-requires c κs = c .before .before .before .before .before .before .pre .0
 
 returns-2 : tie.Need-returns-2
-returns-2 c = (c .mark-pairs .ensures .0, seen-text (c .before .before .before .before .text .given .1) (c .mark-pairs .ensures .1))
+returns-2 c = marked-text _ (c .before .before .before .before .text .given .1) (c .mark-pairs .ensures)
 
 pub mark-spec : {M : Type 1} → statement M
 mark-spec =

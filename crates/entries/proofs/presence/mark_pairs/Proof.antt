@@ -1,20 +1,20 @@
--- `entries::presence::mark_pairs` meets its contract. The loop's invariant: the pairs of the symbols passed are marked. Assumes nothing.
+-- `entries::presence::mark_pairs` meets its contract. The loop's invariant: the pairs from i on are left to be marked. Assumes nothing.
 use Prim.Native.Nat.{_-_, _≤_, _<_}
-use mathlib.Core.Path.{_≡_, refl, _∙_}
+use mathlib.Core.Path.{_≡_, refl, sym, _∙_}
 use native.Mathlib.Omega.{arith}
 use lib.ListN.{length, length-set}
-use Rattle.entries.specs.Seen.{Seeing, seeing-none, seeing-more, seeing-all}
+use Rattle.entries.specs.Seen.{Marking, marking-none, marking-more, marking-all}
 use Rattle.entries.proofs.presence.mark_pairs.Statement.{statement}
 use Rattle.entries.proofs.presence.mark_pairs.Tie as tie
 
 abbrev Inv-loop : tie.InvT-loop
-Inv-loop seen₀ s i₀ i-end seen i = (1 ≤ i) × (i-end ≡ length s) × (length seen ≡ 768) × Seeing seen s i
+Inv-loop seen₀ s i₀ i-end seen i = (1 ≤ i) × (i-end ≡ length s) × (length seen ≡ 768) × Marking seen₀ seen s i
 
 abbrev μ-loop : tie.MeasureT-loop
 μ-loop seen₀ s i₀ i-end seen i = length s - i
 
 loop-holds : tie.Need-loop-holds Inv-loop μ-loop
-loop-holds c = (omega arith, refl, c .before .pre, seeing-none _ _)
+loop-holds c = (omega arith, refl, c .before .pre, marking-none _ _)
 
 sub-pair : tie.Need-sub-pair Inv-loop μ-loop
 sub-pair c = c .before .loop .inv .0
@@ -40,10 +40,10 @@ loop-less c = omega arith
 loop-again : tie.Need-loop-again Inv-loop μ-loop
 loop-again c =
     let l = c .before .before .before .before .loop in let a = c .before .shared-slice-known3 .given (l .i - 1) in let b = c .before .shared-slice-known3 .given (l .i) in let p = c .pair .ensures in let k = l .inv .2 in
-    (omega arith, refl, length-set (l .seen) _ 1 ∙ k, seeing-more (c .pair .result) (l .inv .3) (l .inv .0) (omega arith) p (omega arith))
+    (omega arith, refl, length-set (l .seen) _ 1 ∙ k, marking-more (c .pair .result) (l .inv .3) (l .inv .0) (omega arith) p (omega arith))
 
 returns : tie.Need-returns Inv-loop μ-loop
-returns c = let l = c .before .loop in (l .inv .2, seeing-all (l .inv .3) (l .inv .0) (omega arith))
+returns c = let l = c .before .loop in marking-all (l .inv .3) (l .inv .2 ∙ sym (c .before .before .before .pre)) (l .inv .0) (omega arith)
 
 pub mark-pairs-spec : {M : Type 1} → statement M
 mark-pairs-spec =
