@@ -30,6 +30,7 @@ use Rattle.table.specs.declared.Record.{Record}
 use Rattle.table.specs.declared.order.Cursor.{Cursor}
 use Rattle.table.specs.Reading.{Lies, Short, definitionAt, length-name}
 use Rattle.table.specs.Order.{remaining, Begins}
+use Rattle.table.specs.Sorted.{begins-order}
 use Rattle.table.specs.Sound.{definitions-some}
 use Rattle.blocks.specs.Outside.{Extra}
 use Rattle.blocks.specs.Carried.{held-sized}
@@ -142,7 +143,7 @@ pub left-none :
     (table : List ℕ) (c : Cursor) (ds : List Definition) (extra : ℕ) {w : List ℕ} {p : Progress} → Begins table c → definitions table ≡ some ds → Ready w p → Within extra p
     → Left table c ds extra w w p p
 left-none table c ds extra {w} {p} begins e ready within =
-    let all = sym (begins .order ds e) in
+    let all = sym (begins-order table c ds begins e) in
     record {
       sound = subst EverySound all (order-sound table ds e);
       stages = subst (λ l. Remaining w w p p extra (sizedDefinitions extra (byLength ds)) (sizedDefinitions extra l)) all (remaining-none (sizedDefinitions extra (byLength ds)) ready within);

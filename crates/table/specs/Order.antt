@@ -6,13 +6,12 @@
 use mathlib.Core.Path.{_≡_, refl, ap, _∙_}
 use mathlib.Core.Bool.{true, false}
 use mathlib.Core.List.{List, [], _∷_, _++_}
-use mathlib.Core.Option.{some}
 use Prim.Native.Nat.{ℕ, zero, suc, max, _-_, _<_}
 use native.Mathlib.Omega.{arith}
 use lib.Dec.{eqb}
 use lib.ListN.{length}
 use borrow.Author.Tests.{eq-eqb, ne-eqb}
-use Rattle.spec.specs.Table.{Definition, definitions, byLength}
+use Rattle.spec.specs.Table.{Definition}
 use Rattle.table.specs.Reading.{Lies, Short, Stands, definitionAt}
 use Rattle.table.specs.Listed.{listed}
 use Rattle.table.specs.declared.Record.{Record}
@@ -43,9 +42,11 @@ longest m [] = m
 longest m (d ∷ ds) = longest (max m (size d)) ds
 
 -- ---- what the functions ensure
--- of `Cursor::start`: all of the order is left
+-- of `Cursor::start`, for any table: it begins with the longest name, at the table's start. Of a sound one all of the order is left
+-- then (`begins-order` in `Sorted`)
 pub record Begins (s : List ℕ) (c : Cursor) : Type 0 where
-  pub order : (ds : List Definition) → definitions s ≡ some ds → remaining s c ≡ byLength ds
+  pub length : c .length ≡ longest 0 (listed s 0)
+  pub at : c .at ≡ 0
 
 abbrev pub onward : List ℕ → Step → List Definition
 onward s (Next r c) = definitionAt s r ∷ remaining s c

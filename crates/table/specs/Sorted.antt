@@ -2,13 +2,14 @@
 use mathlib.Core.Path.{_≡_, refl, sym, ap, ap₂, _∙_}
 use mathlib.Core.Bool.{Bool, true, false, _||_, false≢true}
 use mathlib.Core.List.{List, [], _∷_, _++_}
+use mathlib.Core.Option.{some}
 use Prim.Native.Nat.{ℕ, zero, suc, max, _≤_, _<_}
 use native.Mathlib.Decide.{decLt}
 use native.Mathlib.Omega.{arith}
 use lib.Dec.{eqb}
 use lib.ListN.{length}
 use borrow.Author.Tests.{eqb-true, eqb-false, le-leb, lt-leb}
-use Rattle.spec.specs.Table.{Definition, faultyName, faultyLatex, named, faulty, inserted, byLength}
+use Rattle.spec.specs.Table.{Definition, definitions, faultyName, faultyLatex, named, faulty, inserted, byLength}
 use Rattle.table.specs.Listed.{listed, listed-records}
 use Rattle.table.specs.Sound.{definitions-some}
 use Rattle.table.specs.Order.{size, ofLength, of-length-same, of-length-other, downFrom, remaining, longest, Begins}
@@ -106,13 +107,10 @@ sized-sound m n (d ∷ ds) e h =
     one-more {d = d} (faulty-empty (d .name) (own .0)) (omega arith) (sized-sound (max m (size d)) n ds (later .1) h)
 
 -- ---- the start of the order
-pub begins : (s : List ℕ) (c : Cursor) → c .length ≡ longest 0 (listed s 0) → c .at ≡ 0 → Begins s c
+pub begins-order : (s : List ℕ) (c : Cursor) (ds : List Definition) → Begins s c → definitions s ≡ some ds → remaining s c ≡ byLength ds
 unfolding remaining
-begins s c e f =
-    record {
-      order = λ ds sound. (
-          let known = definitions-some s ds sound in
-          let all : listed s 0 ≡ ds = listed-records s ds (known .0) in
-          let least : longest 0 ds ≤ c .length = (let l = e ∙ ap (longest 0) all in omega arith) in
-          ap (λ at. downFrom (c .length) (listed s at) (listed s 0)) f ∙ ap (λ l. downFrom (c .length) l l) all ∙ sym (by-length-down (sized-sound 0 (c .length) ds (known .1) least)));
-    }
+begins-order s c ds begins sound =
+    let known = definitions-some s ds sound in
+    let all : listed s 0 ≡ ds = listed-records s ds (known .0) in
+    let least : longest 0 ds ≤ c .length = (let l = begins .length ∙ ap (longest 0) all in omega arith) in
+    ap (λ at. downFrom (c .length) (listed s at) (listed s 0)) (begins .at) ∙ ap (λ l. downFrom (c .length) l l) all ∙ sym (by-length-down (sized-sound 0 (c .length) ds (known .1) least))

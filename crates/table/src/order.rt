@@ -19,7 +19,7 @@ pub enum Step {
 }
 
 impl Cursor {
-    // The start of the order.
+    // The start of the order, of a faulty table too: there it is that of the records up to the first that goes past the end.
     pub fn start(table: &[u8]) -> Cursor
         ensures { λ r. ⌜ Begins (now (table .entry)) r ⌝ }
     {

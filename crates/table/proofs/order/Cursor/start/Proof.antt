@@ -1,5 +1,4 @@
 -- `table::order::Cursor::start` meets its contract. Assumes nothing.
-use Rattle.table.specs.Sorted.{begins}
 use mathlib.Core.Path.{refl}
 use borrow.Author.Needs.{needs}
 use Rattle.table.proofs.order.Cursor.start.Statement.{statement}
@@ -9,7 +8,7 @@ longest-requires : tie.Need-longest-requires
 longest-requires c κs = search needs
 
 returns : tie.Need-returns
-returns c = begins (c .before .before .args .table .now) _ (c .longest .ensures) refl
+returns c = record { length = c .longest .ensures; at = refl }
 
 pub start-spec : {M : Type 1} → statement M
 start-spec = tie.close (tie.spec longest-requires returns)
