@@ -3,23 +3,25 @@
 --     bareAt        whether the symbol at a place is written as it is
 use mathlib.Core.Path.{_≡_, refl, sym, ap, ap₂, _∙_}
 use mathlib.Core.Bool.{Bool, true, false}
-use mathlib.Core.List.{List, [], _∷_, _++_}
+use mathlib.Core.List.{List, [], _∷_, _++_, reverse}
 use mathlib.Core.Option.{Option, none, some}
 use Prim.Native.Nat.{ℕ, zero, suc, _+_, _-_, _<_, _≤_}
-use native.Mathlib.Numerals.{add-one}
 use native.Mathlib.Omega.{arith}
+use lib.Dec.{eqb}
 use lib.ListN.{length, getD, drop, drop-of-length-le}
 use lib.Seq.{drop-nil}
-use borrow.Author.Tests.{ne-eqb}
+use borrow.Author.Tests.{eqb-true, ne-eqb}
 use Rattle.spec.specs.Symbols.{bytes, is, head, find, starts}
+use Rattle.spec.specs.Closing.{close}
 use Rattle.spec.specs.Finish.{groupsBehind, top, popped, brace, escapeBraces, escapeSetBraces}
 use Rattle.spec.specs.Laws.Symbols.{drop-step}
 use Rattle.symbols.specs.Parts.{part, length-part, whole-part}
 use Rattle.search.specs.Search.{Finds, finds-nothing}
 use Rattle.text.specs.Writer.{Regions, Appended}
 use Rattle.text.specs.Filling.{Filling, filling-more, filling-source, filling-symbol, passed-by, passed-more, passed-head}
+use Rattle.closing.specs.Backward.{ClosesBack, back-at, back-within, back-nothing, head-before}
 use Rattle.search.specs.declared.Found.{Found}
-use Rattle.search.specs.declared.Found.the-variants.{Nothing}
+use Rattle.search.specs.declared.Found.the-variants.{At, Nothing}
 
 unfoldable pub stackOf : List ℕ → List Bool
 stackOf [] = []
@@ -61,43 +63,35 @@ pub braced-end : (s : List ℕ) (i : ℕ) → length s ≤ i → braced s i ≡ 
 unfolding braced escapeBraces
 braced-end s i h = ap (escapeBraces (stackOf (passed-by s i)) (head (passed-by s i))) (drop-of-length-le s h)
 
--- ---- looking back: d braces have been closed that are still to be opened
-unfoldable pub topBehind : ℕ → List ℕ → Bool
-topBehind d p = top (drop d (stackOf p))
+-- ---- the last open brace is the one that closes the symbols passed, read backwards
+abbrev pub grouped : Option (List ℕ) → Bool
+grouped none = true
+grouped (some p) = groupsBehind (head p)
 
-pub top-end : (d : ℕ) → topBehind d [] ≡ true
-unfolding topBehind stackOf
-top-end d = ap top (drop-nil d)
+top-close : (p : List ℕ) (d : ℕ) → top (drop d (stackOf p)) ≡ grouped (close 125 123 d p)
+unfolding stackOf close
+top-close [] d = ap top (drop-nil d)
+top-close (x ∷ p) d = go (eqb x 125) refl (eqb x 123) refl d (top-close p)
+  where
+    later : (b : List Bool) (d : ℕ) → drop d (popped b) ≡ drop (suc d) b
+    later [] d = drop-nil d
+    later (x ∷ b) d = refl
 
-module _ (s : List ℕ) (i d : ℕ) (within : i < length s) where
-  before : (d : ℕ) → topBehind d (passed-by s (i + 1)) ≡ topBehind d (getD s i 0 ∷ passed-by s i)
-  before d = ap (topBehind d) (passed-more s i within)
+    go : (a : Bool) → eqb x 125 ≡ a → (b : Bool) → eqb x 123 ≡ b → (d : ℕ) → ((d : ℕ) → top (drop d (stackOf p)) ≡ grouped (close 125 123 d p))
+        → top (drop d (stackOf (x ∷ p))) ≡ grouped (close 125 123 d (x ∷ p))
+    go true e b f d further = let z = eqb-true x 125 e in rw z (ap top (later (stackOf p) d) ∙ further (suc d))
+    go false e true f zero further = rw (e, f, stackOf, close)
+    go false e true f (suc d) further = rw (e, f, stackOf, close) (further d)
+    go false e false f d further = rw (f, e, stackOf, close) (further d)
 
-  pub top-closer : getD s i 0 ≡ 125 → topBehind d (passed-by s (i + 1)) ≡ topBehind (d + 1) (passed-by s i)
-  unfolding topBehind stackOf
-  top-closer e = before d ∙ ap (λ x. topBehind d (x ∷ passed-by s i)) e ∙ go (stackOf (passed-by s i)) d
-    where
-      go : (b : List Bool) (d : ℕ) → top (drop d (popped b)) ≡ top (drop (d + 1) b)
-      go [] d = ap top (drop-nil d ∙ sym (drop-nil (d + 1)))
-      go (x ∷ b) d = ap (λ k. top (drop k (x ∷ b))) (sym (add-one d))
+module _ (s : List ℕ) {r : Found} (back : ClosesBack s r (close 125 123 0 (reverse s))) where
+  pub top-at : {k : ℕ} → r ≡ At k → top (stackOf (reverse s)) ≡ groupsBehind (getD (0 ∷ s) k 0)
+  top-at {k} e =
+      let inside = back-within back e in
+      top-close (reverse s) 0 ∙ ap grouped (back-at back e) ∙ ap groupsBehind (head-before s k (omega arith))
 
-  pub top-other : (getD s i 0 ≡ 125 → ⊥) → (getD s i 0 ≡ 123 → ⊥) → topBehind d (passed-by s (i + 1)) ≡ topBehind d (passed-by s i)
-  unfolding topBehind stackOf
-  top-other f e = before d ∙ rw (ne-eqb (getD s i 0) 123 e, ne-eqb (getD s i 0) 125 f, stackOf)
-
-  pub top-opener : getD s i 0 ≡ 123 → (d ≡ 0 → ⊥) → topBehind d (passed-by s (i + 1)) ≡ topBehind (d - 1) (passed-by s i)
-  unfolding topBehind stackOf
-  top-opener e more = before d ∙ ap (λ x. topBehind d (x ∷ passed-by s i)) e ∙ go d more
-    where
-      go : (d : ℕ) → (d ≡ 0 → ⊥) → topBehind d (123 ∷ passed-by s i) ≡ topBehind (d - 1) (passed-by s i)
-      go zero m = absurd (m refl)
-      go (suc d) m = let n : d ≡ suc d - 1 = omega arith in ap (λ k. topBehind k (passed-by s i)) n
-
-  pub top-found : getD s i 0 ≡ 123 → d ≡ 0 → topBehind d (passed-by s (i + 1)) ≡ groupsBehind (getD (0 ∷ s) i 0)
-  unfolding topBehind stackOf
-  top-found e z =
-      before d ∙ ap (λ x. topBehind d (x ∷ passed-by s i)) e ∙ ap (λ k. topBehind k (123 ∷ passed-by s i)) z
-      ∙ ap groupsBehind (passed-head s i (omega arith))
+  pub top-none : r ≡ Nothing → top (stackOf (reverse s)) ≡ true
+  top-none e = top-close (reverse s) 0 ∙ ap grouped (back-nothing back e)
 
 -- ---- the symbol at a place
 module _ (s : List ℕ) (i : ℕ) (within : i ≤ length s) where
@@ -105,9 +99,9 @@ module _ (s : List ℕ) (i : ℕ) (within : i ≤ length s) where
   unfolding bareBehind
   bare-opener e = ap (bareBehind (passed-by s i)) e ∙ ap groupsBehind (passed-head s i within)
 
-  pub bare-closer : getD s i 0 ≡ 125 → bareAt s i ≡ topBehind 0 (passed-by s i)
-  unfolding bareBehind topBehind
-  bare-closer e = ap (bareBehind (passed-by s i)) e
+  pub bare-closer : getD s i 0 ≡ 125 → bareAt s i ≡ top (stackOf (reverse (part 0 (i - 0) s)))
+  unfolding bareBehind
+  bare-closer e = let z : i ≡ i - 0 = omega arith in ap (bareBehind (passed-by s i)) e ∙ ap (λ k. top (stackOf (passed-by s k))) z
 
   pub bare-other : (getD s i 0 ≡ 123 → ⊥) → (getD s i 0 ≡ 125 → ⊥) → bareAt s i ≡ true
   unfolding bareBehind

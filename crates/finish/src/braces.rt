@@ -4,14 +4,14 @@ use search::Found;
 use text::Progress;
 ghost use Prim.Native.Nat.{_+_, _≤_, _<_};
 ghost use mathlib.Core.Path.{_≡_};
+ghost use mathlib.Core.List.{reverse};
 ghost use lib.ListN.{length};
 ghost use Rattle.spec.specs.Result.{stage};
-ghost use Rattle.spec.specs.Finish.{groupsBehind, brace, escapeSetBraces};
+ghost use Rattle.spec.specs.Finish.{groupsBehind, top, brace, escapeSetBraces};
 ghost use Rattle.symbols.specs.Parts.{part};
-ghost use Rattle.text.specs.Filling.{passed-by};
 ghost use Rattle.text.specs.Writer.{Room, Appended, Regions};
 ghost use Rattle.text.specs.Stage.{Ready, Staged};
-ghost use Rattle.finish.specs.Braces.{topBehind, bareAt};
+ghost use Rattle.finish.specs.Braces.{stackOf, bareAt};
 
 // Whether a brace behind this symbol groups.
 fn is_grouping(before: u8) -> bool
@@ -23,35 +23,20 @@ fn is_grouping(before: u8) -> bool
                 | ((before == b'}') | (symbols::is_alnum(before) | (before == b'\\')))))
 }
 
-// Whether the last brace that is open before place `end` groups. With none open, its closer stays bare.
-fn open_groups(s: &[u8], end: usize) -> bool
-    requires { ⌜ end ≤ length (now s) ⌝ }
-    ensures { λ r. ⌜ r ≡ topBehind 0 (passed-by (now (s .entry)) end) ⌝ }
+// Whether the last brace that is open at the text's end groups. With none open, its closer stays bare.
+fn open_groups(s: &[u8]) -> bool
+    requires { ⌜ length (now s) ≤ 8192 ⌝ }
+    ensures { λ r. ⌜ r ≡ top (stackOf (reverse (now (s .entry)))) ⌝ }
 {
-    let mut depth: usize = 0;
-    let mut i = end;
-    while 0 < i {
-        let at = i - 1;
-        let b = s[at];
-        i = at;
-        if b == b'}' {
-            depth += 1;
-            continue;
-        }
-        if b != b'{' {
-            continue;
-        }
-        if depth == 0 {
-            return is_grouping(search::before(s, at));
-        }
-        depth -= 1;
-    }
-    true
+    let Found::At(at) = closing::find_closer_back(s, b'}', b'{') else {
+        return true;
+    };
+    is_grouping(search::before(s, at))
 }
 
 // Whether the symbol at a place is written as it is.
 fn is_bare(s: &[u8], i: usize) -> bool
-    requires { ⌜ i < length (now s) ⌝ }
+    requires { ⌜ (i < length (now s)) × (length (now s) ≤ 8192) ⌝ }
     ensures { λ r. ⌜ r ≡ bareAt (now (s .entry)) i ⌝ }
 {
     let b = s[i];
@@ -59,7 +44,7 @@ fn is_bare(s: &[u8], i: usize) -> bool
         return is_grouping(search::before(s, i));
     }
     if b == b'}' {
-        return open_groups(s, i);
+        return open_groups(&s[0..i]);
     }
     true
 }
@@ -79,6 +64,7 @@ fn put_brace(work: &mut [u8], to: usize, count: usize, bare: bool, b: u8) -> usi
 // Writes the `n` symbols at `from` to `to`, set braces escaped. The result is the finished text's length.
 fn escape(work: &mut [u8], from: usize, n: usize, to: usize) -> usize
     requires { ⌜ Regions (now work) from n to 8192 0 ⌝ }
+    requires { ⌜ n ≤ 8192 ⌝ }
     ensures { λ r. ⌜ Appended (now (work .entry)) (now (work .exit)) to 8192 0 r (escapeSetBraces (part from n (now (work .entry)))) ⌝ }
 {
     let end = from + n;

@@ -39,7 +39,7 @@ part-is-bare-end : tie.Need-part-is-bare-end Inv-loop μ-loop
 part-is-bare-end c = omega arith
 
 is-bare-requires : tie.Need-is-bare-requires Inv-loop μ-loop
-is-bare-requires c κs = simp (length-take, length-drop) (omega arith)
+is-bare-requires c κs = (simp (length-take, length-drop) (omega arith), simp (length-take, length-drop) (omega arith))
 
 add-b : tie.Need-add-b Inv-loop μ-loop
 add-b c = omega arith
@@ -60,12 +60,12 @@ loop-again : tie.Need-loop-again Inv-loop μ-loop
 loop-again c =
     let l = c .before .before .before .before .before .before .before .before .before in
     let s = l .before .before in
-    let more = braced-few (s .pre) (l .loop .inv .4) (c .before .before .before .before .before .before .before .before .loop-test .taken) (c .before .before .before .before .before .is-bare .ensures) (c .before .before .put-brace .ensures) in (
+    let more = braced-few (s .pre .0) (l .loop .inv .4) (c .before .before .before .before .before .before .before .before .loop-test .taken) (c .before .before .before .before .before .is-bare .ensures) (c .before .before .put-brace .ensures) in (
       refl,
       omega (arith, appended-long (c .before .before .put-brace .ensures)),
       omega arith,
       omega arith,
-      braced-more (s .pre) (l .loop .inv .4) (c .before .before .before .before .before .before .before .before .loop-test .taken) (c .before .before .before .before .before .is-bare .ensures) (c .before .before .put-brace .ensures),
+      braced-more (s .pre .0) (l .loop .inv .4) (c .before .before .before .before .before .before .before .before .loop-test .taken) (c .before .before .before .before .before .is-bare .ensures) (c .before .before .put-brace .ensures),
     )
 
 same-length : tie.Need-same-length Inv-loop μ-loop
@@ -75,7 +75,7 @@ returns : tie.Need-returns Inv-loop μ-loop
 returns c =
     let l = c .before in
     let a = l .before .before .args in
-    let p = l .before .before .pre in
+    let p = l .before .before .pre .0 in
     let g = length-part (a .from) (a .n) (a .work .now) (p .source) in
     filling-all (l .loop .inv .4) (braced-end (part (a .from) (a .n) (a .work .now)) (l .loop .i) (omega arith))
 

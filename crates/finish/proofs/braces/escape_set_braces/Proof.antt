@@ -1,7 +1,7 @@
 -- `finish::braces::escape_set_braces` meets its contract: with no opening brace the text stays, and else the rewritten text is judged. Assumes nothing.
 use Rattle.finish.specs.Braces.{escape-nowhere}
 use Rattle.spec.specs.Finish.{escapeSetBraces}
-use Rattle.text.specs.Stage.{placed-fits, placed-low, placed-regions, staged-same, staged-written}
+use Rattle.text.specs.Stage.{placed-fits, placed-low, placed-regions, placed-text, staged-same, staged-written}
 use Rattle.text.specs.Written.{appended-written}
 use mathlib.Core.Path.{refl}
 use native.Mathlib.Omega.{arith}
@@ -55,7 +55,10 @@ sub-to : tie.Need-sub-to
 sub-to c = let g = placed-low (c .before .before .before .before .before .before .before .before .before .before .pre) (c .before .before .before .before .before .before .before .text .given .1) in omega arith
 
 escape-requires : tie.Need-escape-requires
-escape-requires c κs = placed-regions (c .before .before .before .before .before .before .before .before .before .before .before .pre) (c .before .before .before .before .before .before .before .before .text .given .1)
+escape-requires c κs =
+    let ready = c .before .before .before .before .before .before .before .before .before .before .before .pre in
+    let e = c .before .before .before .before .before .before .before .before .text .given .1 in
+    (placed-regions ready e, placed-text ready e .1)
 
 finished-requires : tie.Need-finished-requires
 finished-requires c κs = search needs

@@ -1,6 +1,7 @@
 -- `finish::braces::is_bare` meets its contract, by the symbol. Assumes nothing.
 use Rattle.finish.specs.Braces.{bare-opener, bare-closer, bare-other}
 use Rattle.spec.specs.Finish.{groupsBehind}
+use lib.ListN.{length-take, length-drop}
 use mathlib.Core.Path.{sym, ap, _∙_}
 use native.Mathlib.Omega.{arith}
 use borrow.Author.Needs.{needs}
@@ -21,13 +22,23 @@ returns c =
     let a = c .before .before .before .before .before .args in
     c .is-grouping .ensures ∙ ap groupsBehind (c .before .before2 .ensures) ∙ sym (bare-opener (a .s .now) (a .i) (omega arith) (c .before .before .if1 .taken))
 
+sub-open-groups : tie.Need-sub-open-groups
+sub-open-groups c = search needs
+
+part-open-groups-start : tie.Need-part-open-groups-start
+part-open-groups-start c = search needs
+
+part-open-groups-end : tie.Need-part-open-groups-end
+part-open-groups-end c = omega arith
+
 open-groups-requires : tie.Need-open-groups-requires
-open-groups-requires c κs = search needs
+open-groups-requires c κs = simp (length-take, length-drop) (omega arith)
 
 returns-2 : tie.Need-returns-2
 returns-2 c =
-    let a = c .before .before .before .before .before .args in
-    c .open-groups .ensures ∙ sym (bare-closer (a .s .now) (a .i) (omega arith) (c .before .if2 .taken))
+    let closer = c .before .before in
+    let a = closer .before .before .before .before .args in
+    c .open-groups .ensures ∙ sym (bare-closer (a .s .now) (a .i) (omega arith) (closer .if2 .taken))
 
 returns-3 : tie.Need-returns-3
 returns-3 c =
@@ -42,6 +53,9 @@ is-bare-spec =
     before-requires
     is-grouping-requires
     returns
+    sub-open-groups
+    part-open-groups-start
+    part-open-groups-end
     open-groups-requires
     returns-2
     returns-3)
