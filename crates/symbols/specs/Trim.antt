@@ -30,14 +30,14 @@ pub record Within (s : List ℕ) (p : Span) : Type 0 where
   pub order : p .start ≤ p .end
   pub inside : p .end ≤ length s
 
--- what it ensures: a span within the first, that holds t
+-- what it ensures: a span within the first, that holds t. Where t is empty its place is left open: no caller asks for it
 pub record Narrowed (s : List ℕ) (p r : Span) (t : List ℕ) : Type 0 where
   pub from : p .start ≤ r .start
   pub order : r .start ≤ r .end
   pub to : r .end ≤ p .end
   pub text : spanned r s ≡ t
 
--- the same where only its start moves
+-- the same where only its start moves, which says the place too
 pub record Skipped (s : List ℕ) (p r : Span) (t : List ℕ) : Type 0 where
   pub from : p .start ≤ r .start
   pub order : r .start ≤ r .end

@@ -31,7 +31,7 @@ pub fn skip(s: &[u8], span: Span, class: Class) -> Span
     Span { start, end }
 }
 
-// The span without the symbols of the class at its end.
+// The span without the symbols of the class at its end. Where none is left, the contract leaves the place open.
 pub fn skip_end(s: &[u8], span: Span, class: Class) -> Span
     requires { ⌜ Within (now s) span ⌝ }
     ensures { λ r. ⌜ Narrowed (now (s .entry)) span r (dropWhileEnd (member class) (spanned span (now (s .entry)))) ⌝ }
@@ -47,7 +47,7 @@ pub fn skip_end(s: &[u8], span: Span, class: Class) -> Span
     Span { start, end }
 }
 
-// The span without the symbols of the class at its start and its end.
+// The span without the symbols of the class at its start and its end. Where none is left, the place is open here too.
 pub fn trim(s: &[u8], span: Span, class: Class) -> Span
     requires { ⌜ Within (now s) span ⌝ }
     ensures { λ r. ⌜ Narrowed (now (s .entry)) span r (dropWhileEnd (member class) (dropWhile (member class) (spanned span (now (s .entry))))) ⌝ }

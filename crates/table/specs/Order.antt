@@ -63,7 +63,8 @@ taken-lies (taken l h) = l
 taken-short : {s : List ℕ} {r : Record} {c : Cursor} → Taken s (Next r c) → Short r
 taken-short (taken l h) = h
 
--- of `Cursor::next`: the first of what is left, and the rest
+-- of `Cursor::next`: the first of what is left, and the rest. A record counts by its definition, a cursor by what it leaves: where
+-- they stand is open beyond that
 pub record Steps (s : List ℕ) (c : Cursor) (r : Step) : Type 0 where
   pub left : remaining s c ≡ onward s r
   pub lies : Taken s r
