@@ -1,27 +1,26 @@
 -- One rewriting of `attach`. Assumes nothing.
---     Attached     the answer of `attach_at`: the call that is rewritten, its base and its subscript, and the text that comes of it
-use mathlib.Core.Path.{_≡_, refl, sym, ap, ap₂, _∙_}
-use mathlib.Core.Bool.{true}
+--     underset     the text that comes of it
+--     Attached     the answer of `attachment_of`: base and subscript of a call, and what is written for it
+use mathlib.Core.Path.{_≡_, refl, sym, ap, ap₂, _∙_, subst}
+use mathlib.Core.Bool.{true, cond}
 use mathlib.Core.List.{List, [], _∷_, _++_}
 use mathlib.Core.Option.{Option, none, some}
 use Prim.Native.Nat.{ℕ, _+_, _-_, _≤_, _<_}
 use native.Mathlib.Omega.{arith}
 use lib.ListN.{length, take, drop}
 use lib.Seq.{drop-drop, take-take}
-use Rattle.spec.specs.Symbols.{bytes, find, trim, inside, starts}
+use Rattle.spec.specs.Symbols.{bytes, _andThen_, empty, trim, inside, starts}
 use Rattle.spec.specs.Closing.{findUnescapedComma}
-use Rattle.spec.specs.Calls.{callAt, subscript, latexUnderset, attached, attachOf, latexAttach, attachWritten, attachAt, attachFrom, attachOnce}
+use Rattle.spec.specs.Calls.{subscript, latexUnderset, latexAttach}
 use Rattle.spec.specs.Sweep.{replace}
-use Rattle.spec.specs.Laws.Symbols.{find-starts}
-use Rattle.attach.specs.Weight.{weight, weight-append, weight-long, weight-split, weight-from, replace-light, starts-take}
-use Rattle.symbols.specs.Parts.{part, length-part, drop-take}
-use Rattle.search.specs.Search.{Closes, closes-at, closes-within, closes-nothing, inside-drop, until-drop}
+use Rattle.spec.specs.Laws.Symbols.{starts-take}
+use Rattle.attach.specs.Weight.{weight, weight-append, weight-long, weight-split, weight-from, replace-light}
+use Rattle.symbols.specs.Parts.{part, whole-part, length-part, drop-take}
+use Rattle.search.specs.Search.{Closes, closes-at, closes-within, closes-nothing, inside-drop}
 use Rattle.symbols.specs.Trim.{Narrowed, spanned}
 use Rattle.symbols.specs.declared.Span.{Span}
 use Rattle.search.specs.declared.Found.{Found}
 use Rattle.search.specs.declared.Found.the-variants as Found
-use Rattle.delimiters.specs.First.{First, Firstly}
-use Rattle.delimiters.specs.declared.Site.the-variants as Site
 use Rattle.attach.specs.declared.Attachment.{Attachment}
 use Rattle.attach.specs.declared.Attachment.the-variants.{At, Nothing}
 
@@ -29,29 +28,29 @@ use Rattle.attach.specs.declared.Attachment.the-variants.{At, Nothing}
 abbrev pub underset : List ℕ → ℕ → ℕ → List ℕ → List ℕ → List ℕ
 underset s i k below base = take i s ++ latexUnderset below base ++ drop (i + 7 + k + 1) s
 
-abbrev pub once : List ℕ → Attachment → Option (List ℕ)
-once s (At i k base below) = some (underset s i k (spanned below s) (spanned base s))
-once s Nothing = none
-
--- base and subscript stand in the call, apart from each other; and the text gets no heavier
-pub record Arguments (i k : ℕ) (base below : Span) : Type 0 where
-  pub first : i + 7 ≤ base .start
+-- base and subscript stand in the k symbols at `start`, apart from each other
+pub record Arguments (start k : ℕ) (base below : Span) : Type 0 where
+  pub first : start ≤ base .start
   pub base-order : base .start ≤ base .end
   pub between : base .end < below .start
   pub below-order : below .start < below .end
-  pub last : below .end ≤ i + 7 + k
+  pub last : below .end ≤ start + k
 
-abbrev pub Fits : List ℕ → Attachment → Type 0
-Fits s (At i k base below) = Arguments i k base below × (i + 7 + k + 1 ≤ length s) × (weight (underset s i k (spanned below s) (spanned base s)) ≤ weight s)
-Fits s Nothing = Unit {0}
+abbrev pub Fits : ℕ → ℕ → Attachment → Type 0
+Fits start k (At base below) = Arguments start k base below
+Fits start k Nothing = Unit {0}
 
-pub record Attached (s : List ℕ) (r : Attachment) : Type 0 where
-  pub fits : Fits s r
-  pub text : once s r ≡ attachOnce s
+abbrev pub latexOf : List ℕ → Attachment → Option (List ℕ)
+latexOf s (At base below) = some (latexUnderset (spanned below s) (spanned base s))
+latexOf s Nothing = none
+
+pub record Attached (s : List ℕ) (start k : ℕ) (r : Attachment) : Type 0 where
+  pub fits : Fits start k r
+  pub latex : latexOf s r ≡ latexAttach (part start k s)
 
 -- the text that a rewriting leaves is no heavier
-underset-light :
-    (s : List ℕ) (i k : ℕ) {base below : Span} → Arguments i k base below → i + 7 + k + 1 ≤ length s → starts (bytes "attach(") (drop i s) ≡ true
+pub underset-light :
+    (s : List ℕ) (i k : ℕ) {base below : Span} → Arguments (i + 7) k base below → i + 7 + k + 1 ≤ length s → starts (bytes "attach(") (drop i s) ≡ true
     → weight (underset s i k (spanned below s) (spanned base s)) ≤ weight s
 unfolding weight
 underset-light s i k {base} {below} args within met =
@@ -79,85 +78,60 @@ underset-light s i k {base} {below} args within met =
     let closer-long = length-part (below .end) (i + 7 + k + 1 - below .end) s (omega arith) in
     omega arith
 
-pub attached-not : (s : List ℕ) → First (bytes "attach(") s Site.Nothing → Attached s Nothing
-unfolding attachOnce
-attached-not s first = record { fits = tt; text = sym (go (find (bytes "attach(") s) first) }
-  where
-    go : (o : Option (List ℕ)) → ((at : List ℕ) → o ≡ some at → callAt (bytes "attach(") at ≡ none) → attachFrom s o ≡ none
-    go none f = refl
-    go (some at) f = ap (attachAt s at) (f at refl)
-
+-- ---- what `attachment_of` answers: the comma search has looked at the k symbols
 module _
-    {s : List ℕ} {i k : ℕ} (first : Firstly (bytes "attach(") s i k) {q : Found}
-    (comma : Closes (part (i + 7) (i + 7 + k - (i + 7)) s) q (findUnescapedComma (part (i + 7) (i + 7 + k - (i + 7)) s)))
+    (s : List ℕ) (start k : ℕ) (within : start + k ≤ length s) {q : Found}
+    (answer : Closes (part start (start + k - start) s) q (findUnescapedComma (part start (start + k - start) s)))
   where
-    inner-part : part (i + 7) (i + 7 + k - (i + 7)) s ≡ part (i + 7) k s
-    inner-part = let n : i + 7 + k - (i + 7) ≡ k = omega arith in ap (λ m. take m (drop (i + 7) s)) n
-
-    inner-long : length (part (i + 7) (i + 7 + k - (i + 7)) s) ≡ k
-    inner-long = let w = first .within in ap length inner-part ∙ length-part (i + 7) k s (omega arith)
+    comma : Closes (part start k s) q (findUnescapedComma (part start k s))
+    comma = subst (λ l. Closes l q (findUnescapedComma l)) (whole-part start k s) answer
 
     pub comma-fits : {j : ℕ} → q ≡ Found.At j → j < k
-    comma-fits e = let w = closes-within comma e in let l = inner-long in omega arith
+    comma-fits e = let w = closes-within comma e in let l = length-part start k s within in omega arith
 
-    called : attachOnce s ≡ attachWritten s (drop i s) (part (i + 7) (i + 7 + k - (i + 7)) s) (latexAttach (part (i + 7) (i + 7 + k - (i + 7)) s))
-    unfolding attachOnce
-    called =
-        ap (attachFrom s) (first .found) ∙ ap (attachAt s (drop i s)) (first .inner)
-        ∙ ap (λ l. attachWritten s (drop i s) l (latexAttach l)) (sym inner-part)
-
-    pub attached-no-comma : q ≡ Found.Nothing → Attached s Nothing
+    pub attached-no-comma : q ≡ Found.Nothing → Attached s start k Nothing
     unfolding latexAttach
-    attached-no-comma e =
-        let inner = part (i + 7) (i + 7 + k - (i + 7)) s in
-        record { fits = tt; text = sym (called ∙ ap (λ o. attachWritten s (drop i s) inner (attachOf inner o)) (closes-nothing comma e)) }
+    attached-no-comma e = record { fits = tt; latex = rw (closes-nothing comma e) }
 
     module _
         {j : ℕ} (e : q ≡ Found.At j) {base below : Span}
-        (trims : Narrowed s (record { start = i + 7; end = i + 7 + j }) base (trim (part (i + 7) (i + 7 + j - (i + 7)) s)))
-        (finds : Narrowed s (record { start = i + 7 + j + 1; end = i + 7 + k }) below (subscript (find (bytes "b:") (part (i + 7 + j + 1) (i + 7 + k - (i + 7 + j + 1)) s))))
+        (trims : Narrowed s (record { start = start; end = start + j }) base (trim (part start (start + j - start) s)))
+        (finds : Narrowed s (record { start = start + j + 1; end = start + k }) below (subscript (part (start + j + 1) (start + k - (start + j + 1)) s)))
       where
-        written : attachOnce s ≡ attachWritten s (drop i s) (part (i + 7) (i + 7 + k - (i + 7)) s) (attached (spanned base s) (spanned below s))
+        written : latexAttach (part start k s) ≡ cond (empty (spanned below s)) none (some (latexUnderset (spanned below s) (spanned base s)))
         unfolding latexAttach
         written =
-            let inner = part (i + 7) (i + 7 + k - (i + 7)) s in
+            let inner = part start k s in
             let c = comma-fits e in let w = closes-within comma e in
-            let m : i + 7 + j - (i + 7) ≡ j = omega arith in
-            let n : i + 7 + k - (i + 7) - (j + 1) ≡ i + 7 + k - (i + 7 + j + 1) = omega arith in
-            let o : i + 7 + (j + 1) ≡ i + 7 + j + 1 = omega arith in
-            let front : inside inner (drop (j + 1) inner) ≡ part (i + 7) (i + 7 + j - (i + 7)) s =
-            inside-drop inner j w ∙ take-take j (i + 7 + k - (i + 7)) (drop (i + 7) s) (omega arith) ∙ ap (λ x. take x (drop (i + 7) s)) (sym m) in
-            let back : drop (j + 1) inner ≡ part (i + 7 + j + 1) (i + 7 + k - (i + 7 + j + 1)) s =
-            drop-take (j + 1) (i + 7 + k - (i + 7)) (drop (i + 7) s) ∙ ap₂ (λ x l. take x l) n (drop-drop (j + 1) (i + 7) s ∙ ap (λ x. drop x s) o) in
-            called
-            ∙ ap (λ o. attachWritten s (drop i s) inner (attachOf inner o)) (closes-at comma e)
-            ∙ ap₂ (λ x y. attachWritten s (drop i s) inner (attached x y)) (ap trim front ∙ sym (trims .text)) (ap (λ l. subscript (find (bytes "b:") l)) back ∙ sym (finds .text))
+            let m : start + j - start ≡ j = omega arith in
+            let n : k - (j + 1) ≡ start + k - (start + j + 1) = omega arith in
+            let o : start + (j + 1) ≡ start + j + 1 = omega arith in
+            let front : inside inner (drop (j + 1) inner) ≡ part start (start + j - start) s =
+            inside-drop inner j w ∙ take-take j k (drop start s) (omega arith) ∙ ap (λ x. take x (drop start s)) (sym m) in
+            let back : drop (j + 1) inner ≡ part (start + j + 1) (start + k - (start + j + 1)) s =
+            drop-take (j + 1) k (drop start s) ∙ ap₂ (λ x l. take x l) n (drop-drop (j + 1) start s ∙ ap (λ x. drop x s) o) in
+            ap (λ o. o andThen λ rest. cond (empty (subscript rest)) none (some (latexUnderset (subscript rest) (trim (inside inner rest))))) (closes-at comma e)
+            ∙ ap₂ (λ x y. cond (empty y) none (some (latexUnderset y x))) (ap trim front ∙ sym (trims .text)) (ap subscript back ∙ sym (finds .text))
 
-        pub attached-empty : below .start ≡ below .end → Attached s Nothing
+        pub attached-empty : below .start ≡ below .end → Attached s start k Nothing
         attached-empty z =
             let n : below .end - below .start ≡ 0 = omega arith in
-            let inner = part (i + 7) (i + 7 + k - (i + 7)) s in
-            record { fits = tt; text = sym (written ∙ ap (λ m. attachWritten s (drop i s) inner (attached (spanned base s) (take m (drop (below .start) s)))) n) }
+            record {
+              fits = tt;
+              latex = sym (written ∙ ap (λ m. cond (empty (take m (drop (below .start) s))) none (some (latexUnderset (take m (drop (below .start) s)) (spanned base s)))) n);
+            }
 
-        pub attached-at : (below .start ≡ below .end → ⊥) → Attached s (At i k base below)
+        pub attached-at : (below .start ≡ below .end → ⊥) → Attached s start k (At base below)
         attached-at other =
-            let w = first .within in let c = comma-fits e in
+            let c = comma-fits e in
             let bf = trims .from in let bo = trims .order in let bt = trims .to in
             let lf = finds .from in let lo = finds .order in let lt = finds .to in
             let long : length (spanned below s) ≡ below .end - below .start = length-part (below .start) (below .end - below .start) s (omega arith) in
-            let inner = part (i + 7) (i + 7 + k - (i + 7)) s in
-            let next : i + (7 + k + 1) ≡ i + 7 + k + 1 = omega arith in
-            let inside-call : Arguments i k base below = record { first = omega arith; base-order = bo; between = omega arith; below-order = omega arith; last = omega arith } in
-            let light = underset-light s i k inside-call (omega arith) (find-starts (bytes "attach(") s (drop i s) (first .found)) in
             record {
-              fits = (inside-call, omega arith, light);
-              text =
-                  sym (written ∙ ap (attachWritten s (drop i s) inner) (some-below (spanned base s) (spanned below s) (omega arith))
-                  ∙ ap some
-                  (ap₂ (λ x m. x ++ latexUnderset (spanned below s) (spanned base s) ++ drop (7 + m + 1) (drop i s)) (until-drop s i (omega arith)) inner-long
-                  ∙ ap (λ l. take i s ++ latexUnderset (spanned below s) (spanned base s) ++ l) (drop-drop (7 + k + 1) i s ∙ ap (λ x. drop x s) next)));
+              fits = record { first = omega arith; base-order = bo; between = omega arith; below-order = omega arith; last = omega arith };
+              latex = sym (written ∙ some-below (spanned base s) (spanned below s) (omega arith));
             }
           where
-            some-below : (base below : List ℕ) → 0 < length below → attached base below ≡ some (latexUnderset below base)
+            some-below : (base below : List ℕ) → 0 < length below → cond (empty below) none (some (latexUnderset below base)) ≡ some (latexUnderset below base)
             some-below base [] h = absurd (omega arith)
             some-below base (x ∷ below) h = refl

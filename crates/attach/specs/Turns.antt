@@ -14,10 +14,17 @@ use native.Mathlib.Decide.{decLt}
 use native.Mathlib.Omega.{arith}
 use lib.Dec.{ltb}
 use lib.ListN.{length, take, drop}
-use lib.Seq.{take-take}
+use lib.Seq.{drop-drop, take-take}
 use borrow.Author.Tests.{lt-ltb, le-ltb}
-use Rattle.spec.specs.Result.{Result, passed, refused, _then_, mostSymbols, grown, stage}
-use Rattle.spec.specs.Calls.{latexUnderset, attachOnce, attachTimes, convertAttach}
+use Rattle.spec.specs.Result.{passed, _then_, mostSymbols, grown, stage}
+use Rattle.spec.specs.Calls.{spliced, latexUnderset, attachOnce, attachTimes, convertAttach}
+use Rattle.spec.specs.Symbols.{bytes, _andThen_, find}
+use Rattle.spec.specs.Laws.Symbols.{find-starts}
+use Rattle.search.specs.Search.{Finds, finds-at, finds-nothing, until-drop}
+use Rattle.search.specs.declared.Found.{Found}
+use Rattle.search.specs.declared.Found.the-variants as Found
+use Rattle.delimiters.specs.Delimiters.{Called}
+use Rattle.delimiters.specs.First.{Firstly, first-unclosed, first-at, text-finds, name-within, call-from}
 use Rattle.symbols.specs.Parts.{part, length-part, whole-part, sub-part, rest-part}
 use Rattle.symbols.specs.Trim.{spanned}
 use Rattle.text.specs.Writer.{Regions, Appended, appended-long}
@@ -27,7 +34,7 @@ use Rattle.symbols.specs.declared.Span.{Span}
 use Rattle.text.specs.declared.Progress.{Progress}
 use Rattle.text.specs.declared.Progress.the-variants.{Text}
 use Rattle.attach.specs.Weight.{weight, weight-long, weight-short}
-use Rattle.attach.specs.Once.{Arguments, Attached, underset}
+use Rattle.attach.specs.Once.{Arguments, Fits, latexOf, Attached, underset, underset-light}
 use Rattle.attach.specs.declared.Attachment.{Attachment}
 use Rattle.attach.specs.declared.Attachment.the-variants.{At, Nothing}
 use Rattle.attach.specs.declared.Turn.{Turn}
@@ -100,9 +107,9 @@ undersetAt w from n i k base below =
     ++ part (from + (i + 7 + k + 1)) (from + n - (from + (i + 7 + k + 1))) w
 
 underset-parts :
-    (w : List ℕ) (from n : ℕ) {i k : ℕ} {base below : Span} → Arguments i k base below → i + 7 + k + 1 ≤ n
+    (w : List ℕ) (from n i k : ℕ) {base below : Span} → Arguments (i + 7) k base below → i + 7 + k + 1 ≤ n
     → underset (part from n w) i k (spanned below (part from n w)) (spanned base (part from n w)) ≡ undersetAt w from n i k base below
-underset-parts w from n {i} {k} {base} {below} args within =
+underset-parts w from n i k {base} {below} args within =
     let s = part from n w in
     let f = args .first in let bo = args .base-order in let bt = args .between in let lo = args .below-order in let la = args .last in
     ap₂ (λ x y. x ++ y ++ drop (i + 7 + k + 1) s)
@@ -120,36 +127,77 @@ pub record Turned (w w′ : List ℕ) (at n : ℕ) (r : Turn) : Type 0 where
   pub left : Left w w′ at n r
   pub beyond : Beyond w w′
 
--- as `attach_at` has found it in the text
-module _ {w : List ℕ} {at n : ℕ} (half : Halved w at n) {r : Attachment} (found : Attached (part at (at + n - at) w) r) where
-  here : {q : Attachment} → r ≡ q → Attached (part at n w) q
-  here {q} e = subst (λ s. Attached s q) (whole-part at n w) (subst (Attached (part at (at + n - at) w)) e found)
+-- as the searches have found it in the text
+module _ {w : List ℕ} {at n : ℕ} (half : Halved w at n) {r : Found} (finds : Finds (part at (at + n - at) w) r (find (bytes "attach(") (part at (at + n - at) w))) where
+  abbrev text : List ℕ
+  text = part at n w
 
-  pub turned-not : r ≡ Nothing → Turned w w at n Done
-  turned-not e = record { long = refl; left = (refl, sym (here e .text)); beyond = refl }
+  found : Finds text r (find (bytes "attach(") text)
+  found = text-finds (bytes "attach(") w at n finds
 
-  module _ {i k : ℕ} {base below : Span} (e : r ≡ At i k base below) where
-    pub arguments-here : Arguments i k base below × (i + 7 + k + 1 ≤ n)
-    arguments-here =
-        let l = length-part at n w (halved-regions half .source) in
-        let fits = here e .fits in let f = fits .1 in
-        (fits .0, omega arith)
+  unturned : attachOnce text ≡ none → Turned w w at n Done
+  unturned e = record { long = refl; left = (refl, e); beyond = refl }
 
-    pub turned-to : {w′ : List ℕ} {count : ℕ} → Appended w w′ (other at) 16384 0 count (undersetAt w at n i k base below) → Turned w w′ at n (To (other at) count)
-    turned-to {w′} {count} a =
-        let s = part at n w in
-        let t = underset s i k (spanned below s) (spanned base s) in
-        let same : t ≡ undersetAt w at n i k base below = underset-parts w at n (arguments-here .0) (arguments-here .1) in
-        let light : weight t ≤ weight s = here e .fits .2 in
-        let before = half .light in let short = weight-long t in let counted = a .counted in let c = ap length same in
-        let l = appended-long a in let before-long = half .long in
-        let text : part (other at) count w′ ≡ t = appended-text a (halved-regions half .region) (omega arith) ∙ sym same in
-        let weighs = ap weight text in
-        record {
-          long = l;
-          left = (record { long = omega arith; place = other-place at count (omega arith); light = omega arith }, sym (here e .text) ∙ ap some (sym text));
-          beyond = wrote-beyond {k = 32768} (appended-written a (halved-regions half .region) .wrote) (other-within at);
-        }
+  pub turned-absent : r ≡ Found.Nothing → Turned w w at n Done
+  unfolding attachOnce
+  turned-absent e = unturned (rw (finds-nothing found e))
+
+  module _ {i : ℕ} (e : r ≡ Found.At i) where
+    pub name-here : i < n
+    name-here = name-within (bytes "attach(") w at n finds (halved-regions half .source) e
+
+    module _ {q : Found} (called : Called (bytes "attach(") (part (at + i) (at + n - (at + i)) w) q) where
+      pub turned-unclosed : q ≡ Found.Nothing → Turned w w at n Done
+      unfolding attachOnce
+      turned-unclosed f = unturned (rw (finds-at found e, first-unclosed found e (call-from w at n i called) f))
+
+      module _ {k : ℕ} (f : q ≡ Found.At k) where
+        first : Firstly (bytes "attach(") text i k
+        first = first-at found e (call-from w at n i called) f
+
+        pub call-here : i + 7 + k + 1 ≤ n
+        call-here = let l = length-part at n w (halved-regions half .source) in let g = first .within in omega arith
+
+        module _ {a : Attachment} (attached : Attached (part at (at + n - at) w) (i + 7) k a) where
+          once : {b : Attachment} → a ≡ b → attachOnce text ≡ (latexOf text b andThen λ fresh. some (spliced text (drop i text) (bytes "attach(") (part (i + 7) k text) fresh))
+          unfolding attachOnce
+          once {b} g =
+              let latex = subst (λ s. Attached s (i + 7) k a) (whole-part at n w) attached .latex in
+              rw (first .found, first .inner, ← latex, g)
+
+          pub turned-not : a ≡ Nothing → Turned w w at n Done
+          turned-not g = unturned (once g)
+
+          module _ {base below : Span} (g : a ≡ At base below) where
+            pub arguments-here : Arguments (i + 7) k base below × (i + 7 + k + 1 ≤ n)
+            arguments-here = (subst (Fits (i + 7) k) g (attached .fits), call-here)
+
+            rewritten : attachOnce text ≡ some (underset text i k (spanned below text) (spanned base text))
+            rewritten =
+                let l = length-part at n w (halved-regions half .source) in let within = call-here in
+                let long : length (part (i + 7) k text) ≡ k = length-part (i + 7) k text (omega arith) in
+                let next : i + suc (7 + k) ≡ i + 7 + k + 1 = omega arith in
+                let latex = latexUnderset (spanned below text) (spanned base text) in
+                once g
+                ∙ ap some
+                (ap₂ (λ x m. x ++ latex ++ drop (suc (7 + m)) (drop i text)) (until-drop text i (omega arith)) long
+                ∙ ap (λ l. take i text ++ latex ++ l) (drop-drop (suc (7 + k)) i text ∙ ap (λ x. drop x text) next))
+
+            pub turned-to : {w′ : List ℕ} {count : ℕ} → Appended w w′ (other at) 16384 0 count (undersetAt w at n i k base below) → Turned w w′ at n (To (other at) count)
+            turned-to {w′} {count} a =
+                let s = part at n w in
+                let t = underset s i k (spanned below s) (spanned base s) in
+                let same : t ≡ undersetAt w at n i k base below = underset-parts w at n i k (arguments-here .0) (arguments-here .1) in
+                let light : weight t ≤ weight s = underset-light s i k (arguments-here .0) (let l = length-part at n w (halved-regions half .source) in let within = call-here in omega arith) (find-starts (bytes "attach(") s (drop i s) (first .found)) in
+                let before = half .light in let short = weight-long t in let counted = a .counted in let c = ap length same in
+                let l = appended-long a in let before-long = half .long in
+                let same-text : part (other at) count w′ ≡ t = appended-text a (halved-regions half .region) (omega arith) ∙ sym same in
+                let weighs = ap weight same-text in
+                record {
+                  long = l;
+                  left = (record { long = omega arith; place = other-place at count (omega arith); light = omega arith }, rewritten ∙ ap some (sym same-text));
+                  beyond = wrote-beyond {k = 32768} (appended-written a (halved-regions half .region) .wrote) (other-within at);
+                }
 
 -- ---- the turns
 pub record Turning (w₀ w : List ℕ) (from n at m k : ℕ) : Type 0 where

@@ -2,17 +2,15 @@
 --     weight     a symbol weighs 1, and 2 if it is an `a`, `c` or `h`: so `attach(` weighs 11, and `\underset{` only 10
 -- A rewriting takes `attach(`, a comma and `)` away, 13, and brings `\underset{`, `}{` and `}`, 13: no text gets heavier by it, and none is
 -- longer than it is heavy.
-use mathlib.Core.Path.{_≡_, refl, sym, ap, ap₂, _∙_}
-use mathlib.Core.Bool.{Bool, true, false, cond, _||_, _&&_, false≢true}
+use mathlib.Core.Path.{_≡_, refl, sym, ap, _∙_}
+use mathlib.Core.Bool.{Bool, true, false, cond, _||_}
 use mathlib.Core.List.{List, [], _∷_, _++_}
 use Prim.Native.Nat.{ℕ, zero, suc, _+_, _-_, _*_, _≤_, _<_}
 use native.Mathlib.Omega.{arith}
 use lib.ListN.{length, take, drop, take-append-drop}
-use lib.Dec.{eqb}
 use lib.Seq.{drop-drop}
-use borrow.Author.Tests.{eqb-true}
 use Rattle.spec.specs.Symbols.{bytes, is, starts}
-use Rattle.spec.specs.Sweep.{Rule, kept, taking, sweep, replacing, replace}
+use Rattle.spec.specs.Sweep.{Rule, kept, taken, sweep, replacing, replace}
 use Rattle.spec.specs.Laws.Symbols.{starts-long}
 use Rattle.symbols.specs.Parts.{part}
 
@@ -71,7 +69,7 @@ replaced-light before (suc skip) (x ∷ s) = replaced-light x skip s
 replaced-light before zero (x ∷ s) = go (starts (bytes "\\,") (x ∷ s)) refl (replaced-light x 1 s) (replaced-light x 0 s)
   where
     go : (b : Bool) → starts (bytes "\\,") (x ∷ s) ≡ b → weight (sweep commas x 1 s) ≤ weight (drop 1 s) → weight (sweep commas x 0 s) ≤ weight s
-        → weight (cond b (taking (bytes "\\,") (bytes "\\;")) (kept (x ∷ s)) .fresh ++ sweep commas x (cond b (taking (bytes "\\,") (bytes "\\;")) (kept (x ∷ s)) .more) s)
+        → weight (cond b (taken (length (bytes "\\,")) (bytes "\\;")) (kept (x ∷ s)) .fresh ++ sweep commas x (cond b (taken (length (bytes "\\,")) (bytes "\\;")) (kept (x ∷ s)) .more) s)
         ≤ heavy x + weight s
     go true e one none =
         let l = starts-long (bytes "\\,") (x ∷ s) e in
@@ -82,14 +80,3 @@ replaced-light before zero (x ∷ s) = go (starts (bytes "\\,") (x ∷ s)) refl 
 pub replace-light : (s : List ℕ) → weight (replace (bytes "\\,") (bytes "\\;") s) ≤ weight s
 unfolding replace
 replace-light s = replaced-light 0 0 s
-
--- a text that begins with a pattern
-pub starts-take : (w s : List ℕ) → starts w s ≡ true → take (length w) s ≡ w
-starts-take [] s e = refl
-starts-take (k ∷ w) [] e = absurd (false≢true e)
-starts-take (k ∷ w) (x ∷ s) e = go (starts w s) (eqb x k) refl refl (starts-take w s) e
-  where
-    go : (a b : Bool) → starts w s ≡ a → eqb x k ≡ b → (starts w s ≡ true → take (length w) s ≡ w) → a && b ≡ true → x ∷ take (length w) s ≡ k ∷ w
-    go true true f g rest e = ap₂ (λ y l. y ∷ l) (eqb-true x k g) (rest f)
-    go true false f g rest e = absurd (false≢true e)
-    go false b f g rest e = absurd (false≢true e)

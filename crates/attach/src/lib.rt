@@ -1,6 +1,5 @@
 // `attach(base, b: bottom)` becomes `\underset{bottom}{base}`: the first call, again and again, until it can't be rewritten. The text
 // goes to and fro between the halves of the work buffer.
-use delimiters::Site;
 use search::Found;
 use symbols::Class;
 use symbols::Span;
@@ -10,8 +9,8 @@ ghost use mathlib.Core.List.{_++_};
 ghost use Prim.Native.Nat.{_+_, _*_, _≤_};
 ghost use lib.ListN.{length};
 ghost use Rattle.spec.specs.Result.{stage};
-ghost use Rattle.spec.specs.Symbols.{bytes, find};
-ghost use Rattle.spec.specs.Calls.{bottomFrom, subscript, latexUnderset, convertAttach};
+ghost use Rattle.spec.specs.Symbols.{bytes};
+ghost use Rattle.spec.specs.Calls.{bottom, subscript, latexUnderset, convertAttach};
 ghost use Rattle.spec.specs.Sweep.{replace};
 ghost use Rattle.symbols.specs.Parts.{part};
 ghost use Rattle.text.specs.Writer.{Appended, Regions};
@@ -30,7 +29,7 @@ const HALF: usize = 16_384;
 // its end are cut.
 fn bottom_of(s: &[u8], span: Span) -> Span
     requires { ⌜ Within (now s) span ⌝ }
-    ensures { λ r. ⌜ Narrowed (now (s .entry)) span r (bottomFrom (spanned span (now (s .entry)))) ⌝ }
+    ensures { λ r. ⌜ Narrowed (now (s .entry)) span r (bottom (spanned span (now (s .entry)))) ⌝ }
 {
     let start = span.start;
     let end = span.end;
@@ -50,7 +49,7 @@ fn bottom_of(s: &[u8], span: Span) -> Span
 // The subscript among the arguments behind the first comma: an empty span where there is no `b:`.
 fn subscript_of(s: &[u8], span: Span) -> Span
     requires { ⌜ Within (now s) span ⌝ }
-    ensures { λ r. ⌜ Narrowed (now (s .entry)) span r (subscript (find (bytes "b:") (spanned span (now (s .entry))))) ⌝ }
+    ensures { λ r. ⌜ Narrowed (now (s .entry)) span r (subscript (spanned span (now (s .entry)))) ⌝ }
 {
     let start = span.start;
     let end = span.end;
@@ -68,21 +67,17 @@ fn subscript_of(s: &[u8], span: Span) -> Span
     bottom_of(s, after)
 }
 
-// The call that is rewritten: where it begins, the length of what it holds, its base and its subscript.
+// The arguments of a call that can be rewritten: its base and its subscript.
 pub enum Attachment {
-    At(usize, usize, Span, Span),
+    At(Span, Span),
     Nothing,
 }
 
-// The first `attach(` of the text, if it can be rewritten.
-pub fn attach_at(s: &[u8]) -> Attachment
-    requires { ⌜ length (now s) ≤ 16384 ⌝ }
-    ensures { λ r. ⌜ Attached (now (s .entry)) r ⌝ }
+// The arguments of the call that holds the `k` symbols at `start`.
+fn attachment_of(s: &[u8], start: usize, k: usize) -> Attachment
+    requires { ⌜ start + k ≤ length (now s) ⌝ }
+    ensures { λ r. ⌜ Attached (now (s .entry)) start k r ⌝ }
 {
-    let Site::At(i, k) = delimiters::first_call(s, b"attach(") else {
-        return Attachment::Nothing;
-    };
-    let start = i + OPEN;
     let end = start + k;
     let Found::At(j) = commas::find_unescaped_comma(&s[start..end]) else {
         return Attachment::Nothing;
@@ -99,7 +94,7 @@ pub fn attach_at(s: &[u8]) -> Attachment
     if below.start == below.end {
         return Attachment::Nothing;
     }
-    Attachment::At(i, k, base, below)
+    Attachment::At(base, below)
 }
 
 // Appends the `n` symbols at `from`, with `\;` for each `\,`.
@@ -165,7 +160,7 @@ fn rewrite_attach(
     below: Span,
 ) -> usize
     requires { ⌜ Regions (now work) from n to 16384 0 ⌝ }
-    requires { ⌜ Arguments i k base below × (i + 7 + k + 1 ≤ n) ⌝ }
+    requires { ⌜ Arguments (i + 7) k base below × (i + 7 + k + 1 ≤ n) ⌝ }
     ensures { λ r. ⌜ Appended (now (work .entry)) (now (work .exit)) to 16384 0 r (undersetAt (now (work .entry)) from n i k base below) ⌝ }
 {
     let behind = from + (i + OPEN + k + 1);
@@ -204,7 +199,14 @@ fn attach_once(work: &mut [u8], at: usize, n: usize) -> Turn
     ensures { λ r. ⌜ Turned (now (work .entry)) (now (work .exit)) at n r ⌝ }
 {
     let end = at + n;
-    let Attachment::At(i, k, base, below) = attach_at(&work[at..end]) else {
+    let Found::At(i) = search::find(&work[at..end], b"attach(") else {
+        return Turn::Done;
+    };
+    let open = at + i;
+    let Found::At(k) = delimiters::call_at(&work[open..end], b"attach(") else {
+        return Turn::Done;
+    };
+    let Attachment::At(base, below) = attachment_of(&work[at..end], i + OPEN, k) else {
         return Turn::Done;
     };
     let to = other_half(at);

@@ -5,54 +5,17 @@ use search::Found;
 use symbols::Class;
 use symbols::Span;
 use text::Progress;
-ghost use Prim.Native.Nat.{_+_, _≤_};
+ghost use Prim.Native.Nat.{_+_, _≤_, _<_};
 ghost use lib.ListN.{length};
 ghost use Rattle.spec.specs.Result.{stage};
 ghost use Rattle.spec.specs.Calls.{convertBinom};
 ghost use Rattle.symbols.specs.Parts.{part};
 ghost use Rattle.text.specs.Writer.{Room, Appended, Apart, Regions};
 ghost use Rattle.text.specs.Stage.{Ready, Staged};
-ghost use Rattle.binom.specs.Binom.{Parted, latexBinom};
+ghost use Rattle.binom.specs.Binom.{latexBinom, parted};
 
 // The length of `binom(`.
 const OPEN: usize = 6;
-
-// The two arguments of the call that a text begins with, trimmed, and the length of what stands inside.
-pub enum Binomial {
-    At(Span, Span, usize),
-    Nothing,
-}
-
-fn binom_at(s: &[u8]) -> Binomial
-    requires { ⌜ length (now s) ≤ 8192 ⌝ }
-    ensures { λ r. ⌜ Parted (now (s .entry)) r ⌝ }
-{
-    let Found::At(k) = call_at(s, b"binom(") else {
-        return Binomial::Nothing;
-    };
-    let end = OPEN + k;
-    let Found::At(j) = commas::find_comma_in_args(&s[OPEN..end]) else {
-        return Binomial::Nothing;
-    };
-    let comma = OPEN + j;
-    let first = symbols::trim(
-        s,
-        Span {
-            start: OPEN,
-            end: comma,
-        },
-        Class::Blank,
-    );
-    let second = symbols::trim(
-        s,
-        Span {
-            start: comma + 1,
-            end,
-        },
-        Class::Blank,
-    );
-    Binomial::At(first, second, k)
-}
 
 // Appends `\binom{`, the `m` symbols at `a`, `}{`, the `n` symbols at `b`, and `}`.
 fn put_binom(
@@ -74,6 +37,49 @@ fn put_binom(
     text::put_all(work, to, text::CAP, second, b"}")
 }
 
+// Appends the binomial of the `k` symbols at `inside`: what stands before the comma, which is the symbol `comma` of them, and what
+// stands behind it, both trimmed.
+fn put_parted(
+    work: &mut [u8],
+    to: usize,
+    count: usize,
+    inside: usize,
+    k: usize,
+    comma: usize,
+) -> usize
+    requires { ⌜ Room (now work) to 8192 count (k + 64) ⌝ }
+    requires { ⌜ (inside + k ≤ length (now work)) × (comma < k) ⌝ }
+    requires { ⌜ Apart inside k to 8192 ⌝ }
+    ensures { λ r. ⌜ Appended (now (work .entry)) (now (work .exit)) to 8192 count r (parted (part inside k (now (work .entry))) comma) × (r ≤ count + (k + 64)) ⌝ }
+{
+    let close = inside + k;
+    let first = symbols::trim(
+        &work[inside..close],
+        Span {
+            start: 0,
+            end: comma,
+        },
+        Class::Blank,
+    );
+    let second = symbols::trim(
+        &work[inside..close],
+        Span {
+            start: comma + 1,
+            end: k,
+        },
+        Class::Blank,
+    );
+    put_binom(
+        work,
+        to,
+        count,
+        inside + first.start,
+        first.end - first.start,
+        inside + second.start,
+        second.end - second.start,
+    )
+}
+
 // Writes the `n` symbols at `from` to `to`, each binomial rewritten. The result is the finished text's length.
 fn rewrite_binoms(work: &mut [u8], from: usize, n: usize, to: usize) -> usize
     requires { ⌜ Regions (now work) from n to 8192 0 × (n ≤ 8192) ⌝ }
@@ -84,23 +90,21 @@ fn rewrite_binoms(work: &mut [u8], from: usize, n: usize, to: usize) -> usize
     let mut i = 0;
     while i < n {
         let at = from + i;
-        let Binomial::At(first, second, k) = binom_at(&work[at..end]) else {
+        let Found::At(k) = call_at(&work[at..end], b"binom(") else {
             let b = work[at];
             count = text::put(work, to, text::CAP, count, b);
             i += 1;
             continue;
         };
-        let a = at + first.start;
-        let b = at + second.start;
-        count = put_binom(
-            work,
-            to,
-            count,
-            a,
-            first.end - first.start,
-            b,
-            second.end - second.start,
-        );
+        let inside = at + OPEN;
+        let close = inside + k;
+        let Found::At(comma) = commas::find_comma_in_args(&work[inside..close]) else {
+            let b = work[at];
+            count = text::put(work, to, text::CAP, count, b);
+            i += 1;
+            continue;
+        };
+        count = put_parted(work, to, count, inside, k, comma);
         i += OPEN + k + 1;
     }
     count

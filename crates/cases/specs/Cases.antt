@@ -5,8 +5,8 @@
 use mathlib.Core.Path.{_≡_, refl, sym, ap, ap₂, _∙_, subst}
 use mathlib.Core.Bool.{Bool, true, false, cond}
 use mathlib.Core.List.{List, [], _∷_, _++_, map, append-assoc, append-nil}
-use mathlib.Core.Option.{Option, none, some}
-use Prim.Native.Nat.{ℕ, _+_, _-_, _*_, _≤_, _<_}
+use mathlib.Core.Option.{none, some}
+use Prim.Native.Nat.{ℕ, suc, _+_, _-_, _*_, _≤_, _<_}
 use native.Mathlib.Decide.{decLt}
 use native.Mathlib.Omega.{arith}
 use lib.Dec.{ltb}
@@ -15,15 +15,14 @@ use lib.Seq.{drop-drop, take-take}
 use borrow.Author.Tests.{lt-ltb, le-ltb}
 use Rattle.spec.specs.Symbols.{bytes, trim, find}
 use Rattle.spec.specs.Closing.{splitTopLevelCommas}
-use Rattle.spec.specs.Calls.{nonblank, joined, callAt, casesFrom, casesAt, latexCases, convertCases}
+use Rattle.spec.specs.Calls.{nonblank, joined, callAt, latexCases, casesOnce, convertCases}
 use Rattle.symbols.specs.Parts.{part, whole-part, sub-part, rest-part, length-part}
 use Rattle.symbols.specs.Trim.{Narrowed}
 use Rattle.search.specs.Search.{until-drop}
 use Rattle.text.specs.Writer.{Regions, Appended, appended-none, appended-more, appended-part}
 use Rattle.symbols.specs.declared.Span.{Span}
 use Rattle.commas.specs.Split.{Splits, partsBehind}
-use Rattle.delimiters.specs.First.{First, Firstly}
-use Rattle.delimiters.specs.declared.Site.the-variants.{Nothing}
+use Rattle.delimiters.specs.First.{Firstly}
 use Rattle.cases.specs.declared.Branch.{Branch}
 
 -- a branch that is not the first stands behind a separator
@@ -168,25 +167,24 @@ module _ {w₀ w out : List ℕ} {to cap count₀ count from n : ℕ} (a : Appen
   branch-read i m h = sub-part from n i m w h ∙ ap (λ s. take m (drop i s)) (appended-part a from n (regions .apart))
 
 -- ---- the call in its text
-pub cases-not : (s : List ℕ) → First (bytes "cases(") s Nothing → convertCases s ≡ s
-unfolding convertCases
-cases-not s first = go (find (bytes "cases(") s) first
-  where
-    go : (o : Option (List ℕ)) → ((at : List ℕ) → o ≡ some at → callAt (bytes "cases(") at ≡ none) → casesFrom s o ≡ s
-    go none f = refl
-    go (some at) f = ap (casesAt s at) (f at refl)
+pub cases-absent : (s : List ℕ) → find (bytes "cases(") s ≡ none → convertCases s ≡ s
+unfolding convertCases casesOnce
+cases-absent s e = rw e
+
+pub cases-unclosed : (s at : List ℕ) → find (bytes "cases(") s ≡ some at → callAt (bytes "cases(") at ≡ none → convertCases s ≡ s
+unfolding convertCases casesOnce
+cases-unclosed s at e f = rw (e, f)
 
 -- as the code writes it
 pub cases-at : {s : List ℕ} {i k : ℕ} → Firstly (bytes "cases(") s i k → convertCases s ≡ take i s ++ latexCases (part (i + 6) k s) ++ drop (i + 6 + k + 1) s
-unfolding convertCases
+unfolding convertCases casesOnce
 cases-at {s} {i} {k} first =
     let w = first .within in
     let long : length (part (i + 6) k s) ≡ k = length-part (i + 6) k s (omega arith) in
-    let next : i + (6 + k + 1) ≡ i + 6 + k + 1 = omega arith in
-    ap (casesFrom s) (first .found)
-    ∙ ap (casesAt s (drop i s)) (first .inner)
-    ∙ ap₂ (λ l m. l ++ latexCases (part (i + 6) k s) ++ drop (6 + m + 1) (drop i s)) (until-drop s i (omega arith)) long
-    ∙ ap (λ l. take i s ++ latexCases (part (i + 6) k s) ++ l) (drop-drop (6 + k + 1) i s ∙ ap (λ j. drop j s) next)
+    let next : i + suc (6 + k) ≡ i + 6 + k + 1 = omega arith in
+    rw (first .found, first .inner)
+    (ap₂ (λ l m. l ++ latexCases (part (i + 6) k s) ++ drop (suc (6 + m)) (drop i s)) (until-drop s i (omega arith)) long
+    ∙ ap (λ l. take i s ++ latexCases (part (i + 6) k s) ++ l) (drop-drop (suc (6 + k)) i s ∙ ap (λ j. drop j s) next))
 
 -- the same in the parts of the buffer that hold the text
 pub cases-parts :

@@ -1,6 +1,6 @@
 // `cases(..)` becomes LaTeX's environment of that name: its first occurrence only, and only if that one is closed. Its branches are
 // parted by commas at the top level; blank ones are dropped.
-use delimiters::Site;
+use search::Found;
 use symbols::Class;
 use symbols::Span;
 use text::Progress;
@@ -102,7 +102,11 @@ pub fn convert_cases(work: &mut [u8], text: Progress) -> Progress
         return text;
     };
     let end = from + n;
-    let Site::At(i, k) = delimiters::first_call(&work[from..end], b"cases(") else {
+    let Found::At(i) = search::find(&work[from..end], b"cases(") else {
+        return text;
+    };
+    let at = from + i;
+    let Found::At(k) = delimiters::call_at(&work[at..end], b"cases(") else {
         return text;
     };
     let to = text::CAP - from;

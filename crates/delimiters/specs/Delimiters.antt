@@ -10,10 +10,10 @@ use Prim.Native.Nat.{ℕ, _+_, _-_, _*_, _≤_, _<_}
 use native.Mathlib.Omega.{arith}
 use lib.ListN.{length, getD, take, drop, length-take, length-drop, length-append}
 use lib.Seq.{drop-drop, length-take-le}
-use Rattle.spec.specs.Symbols.{starts, trim, trimQuotes}
+use Rattle.spec.specs.Symbols.{_andThen_, inside, starts, trim, trimQuotes}
 use Rattle.spec.specs.Sweep.{Rule}
 use Rattle.spec.specs.Closing.{findMatchingParen}
-use Rattle.spec.specs.Calls.{closed, callAt, rewritten, calling}
+use Rattle.spec.specs.Calls.{callAt, rewritten, calling}
 use Rattle.spec.specs.Laws.Sweep.{Waits}
 use Rattle.symbols.specs.Parts.{part, length-part}
 use Rattle.search.specs.Search.{Closes, inside-drop}
@@ -61,20 +61,23 @@ called-by name s (At k) e f =
     let w = f .within in let l = length-drop (length name) s in
     record {
       within = omega arith;
-      inner = rw (e, callAt) (ap some (sym (inside-drop d k (omega arith))) ∙ ap (closed d) (f .left));
+      inner = rw (e, callAt) (ap some (sym (inside-drop d k (omega arith))) ∙ ap (λ o. o andThen λ behind. some (inside d behind)) (f .left));
     }
-called-by name s Nothing e f = record { within = omega arith; inner = rw (e, callAt) (ap (closed (drop (length name) s)) (f .left)) }
+called-by name s Nothing e f = record { within = omega arith; inner = rw (e, callAt) (ap (λ o. o andThen λ behind. some (inside (drop (length name) s) behind)) (f .left)) }
 
 -- without the name there is no call
 pub calling-waits : (name : List ℕ) (write : List ℕ → List ℕ) → Waits name (calling name write)
 calling-waits name write = record { copies = λ before s e. ap (rewritten name write s) (sym (called-not name s e .inner)) }
 
--- ---- a turn of the loop: `call_at` has looked at the rest of the text
+-- ---- a turn of a loop: `call_at` has looked at the rest of the text
 module _
-    {name : List ℕ} (write : List ℕ → List ℕ) {w₀ w : List ℕ} {from n to cap count₀ count i : ℕ}
-    (regions : Regions w₀ from n to cap count₀) (sweeping : Sweeping (calling name write) w₀ w from n to cap count₀ count i) (more : i < n)
+    {name : List ℕ} {rule : Rule} {w₀ w : List ℕ} {from n to cap count₀ count i : ℕ}
+    (regions : Regions w₀ from n to cap count₀) (sweeping : Sweeping rule w₀ w from n to cap count₀ count i) (more : i < n)
     {r : Found} (called : Called name (rest from n i w) r)
   where
+    pub call-read : callAt name (drop i (part from n w₀)) ≡ innerAt name (drop i (part from n w₀)) r
+    call-read = ap (callAt name) (sym (rest-read regions sweeping)) ∙ sym (called .inner) ∙ ap (λ s. innerAt name s r) (rest-read regions sweeping)
+
     -- the call ends within the n symbols
     pub call-fits : {k : ℕ} → r ≡ At k → i + length name + k + 1 ≤ n
     call-fits {k} e =
@@ -82,10 +85,14 @@ module _
         let b = length-take (from + n - (from + i)) (drop (from + i) w) in
         omega arith
 
+-- the turn of a loop that rewrites calls
+module _
+    {name : List ℕ} (write : List ℕ → List ℕ) {w₀ w : List ℕ} {from n to cap count₀ count i : ℕ}
+    (regions : Regions w₀ from n to cap count₀) (sweeping : Sweeping (calling name write) w₀ w from n to cap count₀ count i) (more : i < n)
+    {r : Found} (called : Called name (rest from n i w) r)
+  where
     turn-found : calling name write (getD (0 ∷ part from n w₀) i 0) (drop i (part from n w₀)) ≡ rewritten name write (drop i (part from n w₀)) (innerAt name (drop i (part from n w₀)) r)
-    turn-found =
-        ap (rewritten name write (drop i (part from n w₀)))
-        (ap (callAt name) (sym (rest-read regions sweeping)) ∙ sym (called .inner) ∙ ap (λ s. innerAt name s r) (rest-read regions sweeping))
+    turn-found = ap (rewritten name write (drop i (part from n w₀))) (call-read regions sweeping more called)
 
     module _ {w′ : List ℕ} {count′ : ℕ} where
       pub called-here :
@@ -94,7 +101,7 @@ module _
           → Sweeping (calling name write) w₀ w′ from n to cap count₀ count′ (i + length name + k + 1)
       called-here {k} {bs} e same few a =
           let s = drop i (part from n w₀) in
-          let fits = call-fits e in
+          let fits = call-fits regions sweeping more called e in
           let l = length-part from n w₀ (regions .source) in let d = length-drop i (part from n w₀) in let g = length-drop (length name) s in
           let long : length (take k (drop (length name) s)) ≡ k = length-take-le k (drop (length name) s) (omega arith) in
           let inner : take k (drop (length name) s) ≡ take k (drop (i + length name) (part from n w₀)) = ap (take k) (drop-drop (length name) i (part from n w₀)) in

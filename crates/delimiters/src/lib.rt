@@ -1,8 +1,5 @@
 // What the call rewritings share: a call `name(..)` becomes `left..right`, wherever its parenthesis is closed. The name holds its
 // own parenthesis, as `bb(`.
-mod first;
-
-pub use first::first_call;
 use search::Found;
 use symbols::Class;
 use symbols::Span;
@@ -17,12 +14,6 @@ ghost use Rattle.symbols.specs.Trim.{Within, Narrowed, spanned};
 ghost use Rattle.text.specs.Writer.{Room, Appended, Apart, Regions};
 ghost use Rattle.text.specs.Stage.{Ready, Staged};
 ghost use Rattle.delimiters.specs.Delimiters.{Called, Fair, argument, delimited};
-
-// A call in a text: where it begins, and the length of what stands inside.
-pub enum Site {
-    At(usize, usize),
-    Nothing,
-}
 
 // The length of what stands inside the call that the text begins with.
 pub fn call_at(s: &[u8], name: &[u8]) -> Found

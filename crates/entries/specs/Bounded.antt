@@ -11,7 +11,7 @@ use native.Mathlib.Omega.{arith}
 use lib.ListN.{length, getD, drop}
 use lib.Seq.{drop-drop}
 use Rattle.spec.specs.Symbols.{is, letter, alnum, wordly, head, starts}
-use Rattle.spec.specs.Sweep.{Turn, Rule, kept, taking, sweep, replacing}
+use Rattle.spec.specs.Sweep.{Turn, Rule, kept, taken, sweep, replacing}
 use Rattle.spec.specs.Rows.{Row}
 use Rattle.spec.specs.Words.{greek, word, capital}
 use Rattle.spec.specs.Table.{Definition}
@@ -42,7 +42,7 @@ abbrev pub spares : Bounds → List ℕ → ℕ → List ℕ → Bool
 spares b pattern before s = left b before (head (drop (length pattern) s))
 
 abbrev pub bounded : Bounds → List ℕ → List ℕ → Rule
-bounded b pattern fresh before s = cond (stands b pattern before s) (taking pattern (cond (spares b pattern before s) pattern fresh)) (kept s)
+bounded b pattern fresh before s = cond (stands b pattern before s) (taken (length pattern) (cond (spares b pattern before s) pattern fresh)) (kept s)
 
 -- ---- a place, as the code looks at it
 module _ (b : Bounds) (pattern : List ℕ) (before : ℕ) (s : List ℕ) where
@@ -74,12 +74,12 @@ sweep-alike : (r r′ : Rule) → ((before : ℕ) (s : List ℕ) → r before s 
 sweep-alike r r′ same s = sweep-same r r′ (length s) (λ before t h. same before t) s 0 0 (omega arith)
 
 pub literal-bounded : (pattern fresh s : List ℕ) → sweep (bounded Literal pattern fresh) 0 0 s ≡ sweep (replacing pattern fresh) 0 0 s
-literal-bounded pattern fresh = sweep-alike (bounded Literal pattern fresh) (replacing pattern fresh) (λ before t. always (starts pattern t) (taking pattern fresh) (kept t))
+literal-bounded pattern fresh = sweep-alike (bounded Literal pattern fresh) (replacing pattern fresh) (λ before t. always (starts pattern t) (taken (length pattern) fresh) (kept t))
 
 pub greek-bounded : (r : Row) (s : List ℕ) → sweep (bounded Greek (r .typst) (r .latex)) 0 0 s ≡ sweep (greek r) 0 0 s
 greek-bounded r =
     sweep-alike (bounded Greek (r .typst) (r .latex)) (greek r)
-    (λ before t. always (starts (r .typst) t) (taking (r .typst) (cond (spares Greek (r .typst) before t) (r .typst) (r .latex))) (kept t))
+    (λ before t. always (starts (r .typst) t) (taken (length (r .typst)) (cond (spares Greek (r .typst) before t) (r .typst) (r .latex))) (kept t))
 
 pub word-bounded : (r : Row) (s : List ℕ) → sweep (bounded Word (r .typst) (r .latex)) 0 0 s ≡ sweep (word r) 0 0 s
 word-bounded r s = refl

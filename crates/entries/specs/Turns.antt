@@ -5,7 +5,7 @@ use mathlib.Core.List.{List, [], _∷_}
 use Prim.Native.Nat.{ℕ, pred, _+_, _-_, _*_, _≤_, _<_}
 use native.Mathlib.Omega.{arith}
 use lib.ListN.{length, getD, drop, length-drop}
-use Rattle.spec.specs.Sweep.{kept, taking}
+use Rattle.spec.specs.Sweep.{kept, taken}
 use Rattle.spec.specs.Symbols.{starts}
 use Rattle.spec.specs.Laws.Symbols.{starts-long}
 use Rattle.spec.specs.Laws.Booleans.{and-left}
@@ -34,7 +34,7 @@ module _
         → Sweeping (bounded b pattern fresh) w₀ w′ from n to cap count₀ count′ (i + 1)
     copied-here other a =
         sweeping-kept regions sweeping more
-        (ap (λ t. cond t (taking pattern (cond (spares b pattern (getD (0 ∷ part from n w₀) i 0) (drop i (part from n w₀))) pattern fresh)) (kept (drop i (part from n w₀)))) other) a
+        (ap (λ t. cond t (taken (length pattern) (cond (spares b pattern (getD (0 ∷ part from n w₀) i 0) (drop i (part from n w₀))) pattern fresh)) (kept (drop i (part from n w₀)))) other) a
 
     module _ (fair : Fair pattern fresh) (met : stands b pattern (getD (0 ∷ part from n w₀) i 0) (drop i (part from n w₀)) ≡ true) where
       -- the pattern lies within the text
@@ -53,7 +53,7 @@ module _
           let h = fair .some in
           let next : i + 1 + pred (length pattern) ≡ i + length pattern = omega arith in
           subst (λ j. Sweeping (bounded b pattern fresh) w₀ w′ from n to cap count₀ count′ j) next
-          (sweeping-more regions sweeping more (taking pattern (cond spared pattern fresh))
-          (ap (λ t. cond t (taking pattern (cond (spares b pattern (getD (0 ∷ part from n w₀) i 0) (drop i (part from n w₀))) pattern fresh)) (kept (drop i (part from n w₀)))) met
-          ∙ ap (λ t. taking pattern (cond t pattern fresh)) e)
+          (sweeping-more regions sweeping more (taken (length pattern) (cond spared pattern fresh))
+          (ap (λ t. cond t (taken (length pattern) (cond (spares b pattern (getD (0 ∷ part from n w₀) i 0) (drop i (part from n w₀))) pattern fresh)) (kept (drop i (part from n w₀)))) met
+          ∙ ap (λ t. taken (length pattern) (cond t pattern fresh)) e)
           a (written-few spared fair))

@@ -14,7 +14,7 @@ use lib.ListN.{length, take, drop, take-append-drop}
 use lib.Seq.{take-append-seam}
 use borrow.Author.Tests.{eqb-true}
 use Rattle.spec.specs.Symbols.{digit, head, starts, textMark, romanMark}
-use Rattle.spec.specs.Sweep.{Rule, kept, taking, sweep}
+use Rattle.spec.specs.Sweep.{Rule, kept, taken, sweep}
 use Rattle.spec.specs.Held.{Held, withText}
 use Rattle.held.specs.Marks.{isMark, hasMark, count, or-false, has-mark-append}
 use Rattle.held.specs.Replacing.{starts-split}
@@ -31,7 +31,7 @@ pub record Name (w : List ℕ) : Type 0 where
 abbrev pub named : List ℕ → (ℕ → ℕ → Bool) → (ℕ → ℕ → List ℕ) → Rule
 named name allowed fresh before s =
     let behind = head (drop (length name) s) in
-    cond (starts name s && allowed before behind) (taking name (fresh before behind)) (kept s)
+    cond (starts name s && allowed before behind) (taken (length name) (fresh before behind)) (kept s)
 
 -- they treat both marks alike, and write none
 pub record Between (rule : Rule) : Type 0 where
@@ -119,7 +119,7 @@ module _ {rule : Rule} (between : Between rule) where
       long = let e = ap length (between .a-name .split) in omega arith
 
       go : (t : Bool) → starts (between .name) (x ∷ s) ≡ t → (u : Bool)
-          → (let turn = cond (t && u) (taking (between .name) (between .fresh before behind)) (kept (x ∷ s)) in
+          → (let turn = cond (t && u) (taken (length (between .name)) (between .fresh before behind)) (kept (x ∷ s)) in
           marksOf (turn .fresh) ≡ marksOf (take (suc (turn .more)) (x ∷ s)))
       go true e true =
           unmarked-marks (between .fresh before behind) (between .plain before behind)

@@ -13,7 +13,7 @@ use lib.ListN.{length, getD, take, drop, length-append}
 use lib.Seq.{take-append-seam}
 use borrow.Author.Tests.{eqb-true}
 use Rattle.spec.specs.Symbols.{bytes, is, head, empty, starts, ends}
-use Rattle.spec.specs.Sweep.{Turn, kept, taking, replacing, sweep, replace}
+use Rattle.spec.specs.Sweep.{Turn, kept, taken, replacing, sweep, replace}
 use Rattle.spec.specs.Finish.{lastBreak, lineBreaks}
 
 -- before a newline, or at the very end
@@ -102,7 +102,7 @@ swap-copy n before b x s h clear e shorter =
     let line : inLine before x s ≡ false = line-starts before x s ∙ clear in
     let next : Clear x s = and-comm (is " " x) (starts (bytes "\\\n") s) ∙ e in
     let rule = replacing (bytes " \\\n") (bytes " \\\\\n") in
-    ap (λ (t : Turn). t .fresh ++ sweep rule x (t .more) s) (ap (λ t. cond t (taking (bytes " \\\n") (bytes " \\\\\n")) (kept (x ∷ s))) e)
+    ap (λ (t : Turn). t .fresh ++ sweep rule x (t .more) s) (ap (λ t. cond t (taken (length (bytes " \\\n")) (bytes " \\\\\n")) (kept (x ∷ s))) e)
     ∙ ap (λ t. x ∷ t) (shorter x x s h next)
     ∙ ap (λ t. piece x t ++ inner x s) (sym line)
 

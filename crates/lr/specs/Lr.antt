@@ -1,5 +1,4 @@
 -- The turns of convert_lr, a rewriting of calls whose delimiters hang on the first symbol inside. Assumes nothing.
---     sizedInside     what is written for what stands inside
 --     Ended           what the loop has come to: the finished text, or number 8
 use mathlib.Core.Path.{_≡_, refl, sym, ap, _∙_, subst}
 use mathlib.Core.Bool.{Bool, true, false, _&&_, _||_}
@@ -13,54 +12,42 @@ use lib.ListN.{length, getD, take, drop, length-take, length-drop, length-append
 use lib.Seq.{drop-drop, length-take-le}
 use borrow.Author.Tests.{ne-eqb}
 use Rattle.spec.specs.Symbols.{bytes, is, head, past, starts, find}
-use Rattle.spec.specs.Sweep.{Rule, sweep, reached}
-use Rattle.spec.specs.Calls.{callAt, rewritten, calling}
-use Rattle.spec.specs.Finish.{delimiters, sizedBy, lr, lrTurn, bareInside, bareDelimiter, convertLr}
+use Rattle.spec.specs.Sweep.{sweep, reached}
+use Rattle.spec.specs.Calls.{callAt, rewritten}
+use Rattle.spec.specs.Finish.{Delimiters, delimiters, latexLr, lr, bareDelimiter, convertLr}
 use Rattle.spec.specs.Result.{refused, stage}
 use Rattle.spec.specs.Laws.Symbols.{head-drop, past-drop}
-use Rattle.spec.specs.Laws.Sweep.{Waits, sweep-same, sweep-absent}
+use Rattle.spec.specs.Laws.Sweep.{Waits, sweep-absent}
 use Rattle.symbols.specs.Parts.{part, length-part, sub-part, whole-part}
 use Rattle.search.specs.Search.{Finds, finds-nothing}
 use Rattle.text.specs.Writer.{Regions, Appended}
-use Rattle.text.specs.Sweep.{Sweeping, rest, rest-read, symbols-read}
+use Rattle.text.specs.Sweep.{Sweeping, rest, symbols-read}
 use Rattle.search.specs.declared.Found.{Found}
 use Rattle.search.specs.declared.Found.the-variants.{At, Nothing}
-use Rattle.delimiters.specs.Delimiters.{Called, innerAt, spent, called-not, calling-waits}
-use Rattle.lr.specs.Reached.{comes, comes-turn, reached-same, reached-absent}
+use Rattle.delimiters.specs.Delimiters.{Called, innerAt, called-not, calling-waits, call-read, call-fits}
+use Rattle.lr.specs.Reached.{comes, comes-turn, reached-absent}
 use Rattle.lr.specs.declared.Ended.{Ended}
 use Rattle.lr.specs.declared.Ended.the-variants.{Length, Bare}
 
-abbrev pub sizedInside : List ℕ → List ℕ
-sizedInside inner = sizedBy inner (delimiters (head inner))
+-- what is written for what stands inside, with the delimiters of a first symbol
+abbrev pub sizedBy : List ℕ → Option Delimiters → List ℕ
+sizedBy inner o =
+    elim o [
+      | some d ↦ d .left ++ take (pred (pred (length inner))) (past inner) ++ d .right
+      | none ↦ inner
+    ]
 
 abbrev pub lrName : List ℕ
 lrName = bytes "lr("
-
--- `lr` as a rewriting of calls
-abbrev pub lrCalling : Rule
-lrCalling = calling lrName sizedInside
-
-lr-calling : (before : ℕ) (s : List ℕ) → lrCalling before s ≡ lr before s
-lr-calling before s = go (callAt lrName s)
-  where
-    go : (o : Option (List ℕ)) → rewritten lrName sizedInside s o ≡ lrTurn s o
-    go none = refl
-    go (some inner) = refl
-
-pub sweep-lr : (s : List ℕ) → sweep lrCalling 0 0 s ≡ sweep lr 0 0 s
-sweep-lr s = sweep-same lrCalling lr (length s) (λ before t h. lr-calling before t) s 0 0 (omega arith)
-
-pub reached-lr : (s : List ℕ) → reached bareDelimiter lrCalling 0 0 s ≡ reached bareDelimiter lr 0 0 s
-reached-lr s = reached-same bareDelimiter lrCalling lr lr-calling s 0 0
 
 -- ---- the delimiters of a first symbol
 abbrev pub isDelimiter : ℕ → Bool
 isDelimiter x = is "(" x || (is "|" x || (is "[" x || is "{" x))
 
-pub delimiter-is : (x : ℕ) → elim (delimiters x) [ none ↦ false | some d ↦ true ] ≡ isDelimiter x
+pub delimiter-is : (x : ℕ) → elim (delimiters x) [ some d ↦ true | none ↦ false ] ≡ isDelimiter x
 delimiter-is x = go (is "(" x) refl (is "|" x) refl (is "[" x) refl (is "{" x) refl
   where
-    go : (a : Bool) → is "(" x ≡ a → (b : Bool) → is "|" x ≡ b → (c : Bool) → is "[" x ≡ c → (d : Bool) → is "{" x ≡ d → elim (delimiters x) [ none ↦ false | some d ↦ true ] ≡ isDelimiter x
+    go : (a : Bool) → is "(" x ≡ a → (b : Bool) → is "|" x ≡ b → (c : Bool) → is "[" x ≡ c → (d : Bool) → is "{" x ≡ d → elim (delimiters x) [ some d ↦ true | none ↦ false ] ≡ isDelimiter x
     go true e b f c g d h = rw e
     go false e true f c g d h = rw (e, f)
     go false e false f true g d h = rw (e, f, g)
@@ -118,11 +105,15 @@ sized-few inner x k bound = go (is "(" x) refl (is "|" x) refl (is "[" x) refl (
     go false e false f false g false h = rw (e, f, g, h, delimiters) (let l : length inner ≤ k = bound in omega arith)
 
 -- ---- number 8
-unlike : (s : List ℕ) → starts lrName s ≡ false → bareDelimiter s ≡ false
-unlike s e = ap bareInside (sym (called-not lrName s e .inner))
+-- `bareDelimiter` by what stands inside
+abbrev bareIn : Option (List ℕ) → Bool
+bareIn o = elim o [ some inner ↦ eqb (length inner) 1 && elim (delimiters (head inner)) [ some d ↦ true | none ↦ false ] | none ↦ false ]
 
-pub lr-waits : Waits lrName lrCalling
-lr-waits = calling-waits lrName sizedInside
+unlike : (s : List ℕ) → starts lrName s ≡ false → bareDelimiter s ≡ false
+unlike s e = ap bareIn (sym (called-not lrName s e .inner))
+
+pub lr-waits : Waits lrName lr
+lr-waits = calling-waits lrName latexLr
 
 -- a text in which the name does not occur
 module _ (from n : ℕ) (w : List ℕ) {r : Found} (finds : Finds (part from (from + n - from) w) r (find lrName (part from (from + n - from) w))) (nothing : r ≡ Nothing) where
@@ -130,10 +121,10 @@ module _ (from n : ℕ) (w : List ℕ) {r : Found} (finds : Finds (part from (fr
   absent = ap (find lrName) (sym (whole-part from n w)) ∙ finds-nothing finds nothing
 
   pub absent-sweep : sweep lr 0 0 (part from n w) ≡ part from n w
-  absent-sweep = sym (sweep-lr (part from n w)) ∙ sweep-absent lr-waits (part from n w) 0 absent
+  absent-sweep = sweep-absent lr-waits (part from n w) 0 absent
 
   pub absent-reached : reached bareDelimiter lr 0 0 (part from n w) ≡ false
-  absent-reached = sym (reached-lr (part from n w)) ∙ reached-absent bareDelimiter lr-waits unlike (part from n w) 0 absent
+  absent-reached = reached-absent bareDelimiter lr-waits unlike (part from n w) 0 absent
 
 pub record Bared (w w′ : List ℕ) (from n to : ℕ) : Type 0 where
   pub reaches : reached bareDelimiter lr 0 0 (part from n w) ≡ true
@@ -160,39 +151,33 @@ convert-lr-sized s e = rw (e, convertLr)
 -- ---- a turn of the loop: `call_at` has looked at the rest of the text
 module _
     {w₀ w : List ℕ} {from n to cap count₀ count i : ℕ}
-    (regions : Regions w₀ from n to cap count₀) (sweeping : Sweeping lrCalling w₀ w from n to cap count₀ count i) (more : i < n)
+    (regions : Regions w₀ from n to cap count₀) (sweeping : Sweeping lr w₀ w from n to cap count₀ count i) (more : i < n)
     {r : Found} (called : Called lrName (rest from n i w) r)
   where
     abbrev source : List ℕ
     source = part from n w₀
 
-    here : Called lrName (drop i source) r
-    here = subst (λ s. Called lrName s r) (rest-read regions sweeping) called
-
     inside-i : i < length source
     inside-i = let l = length-part from n w₀ (regions .source) in omega arith
 
-    pub no-call : r ≡ Nothing → comes bareDelimiter lrCalling source i ≡ comes bareDelimiter lrCalling source (i + 1)
+    pub no-call : r ≡ Nothing → comes bareDelimiter lr source i ≡ comes bareDelimiter lr source (i + 1)
     no-call e =
-        let none-here : callAt lrName (drop i source) ≡ none = sym (here .inner) ∙ ap (innerAt lrName (drop i source)) e in
+        let none-here : callAt lrName (drop i source) ≡ none = call-read regions sweeping more called ∙ ap (innerAt lrName (drop i source)) e in
         let next : i + 1 + 0 ≡ i + 1 = omega arith in
-        comes-turn bareDelimiter lrCalling source i inside-i (ap (rewritten lrName sizedInside (drop i source)) none-here)
-        ∙ ap (λ o. bareInside o || comes bareDelimiter lrCalling source (i + 1 + 0)) none-here
-        ∙ ap (comes bareDelimiter lrCalling source) next
+        comes-turn bareDelimiter lr source i inside-i (ap (rewritten lrName latexLr (drop i source)) none-here)
+        ∙ ap (λ o. bareIn o || comes bareDelimiter lr source (i + 1 + 0)) none-here
+        ∙ ap (comes bareDelimiter lr source) next
 
     module _ {k : ℕ} (e : r ≡ At k) where
       fits : i + 3 + k + 1 ≤ n
-      fits =
-          let l = called .within in let s = ap (spent lrName) e in
-          let b = length-take (from + n - (from + i)) (drop (from + i) w) in
-          omega arith
+      fits = call-fits regions sweeping more called e
 
       -- what stands inside, as the code takes it
       pub inner-read : part (from + (i + 3)) k w ≡ take k (drop (i + 3) source)
       inner-read = symbols-read regions sweeping (i + 3) k (let f = fits in omega arith)
 
       call-here : callAt lrName (drop i source) ≡ some (part (from + (i + 3)) k w)
-      call-here = sym (here .inner) ∙ ap (innerAt lrName (drop i source)) e ∙ ap (λ s. some (take k s)) (drop-drop 3 i source) ∙ ap some (sym inner-read)
+      call-here = call-read regions sweeping more called ∙ ap (innerAt lrName (drop i source)) e ∙ ap (λ s. some (take k s)) (drop-drop 3 i source) ∙ ap some (sym inner-read)
 
       inner-long : length (part (from + (i + 3)) k w) ≡ k
       inner-long =
@@ -206,23 +191,23 @@ module _
 
         bare-is : bareDelimiter (drop i source) ≡ eqb k 1 && isDelimiter first
         bare-is =
-            ap bareInside call-here
-            ∙ ap (λ m. eqb m 1 && elim (delimiters (head (part (from + (i + 3)) k w))) [ none ↦ false | some d ↦ true ]) inner-long
-            ∙ ap (λ x. eqb k 1 && elim (delimiters x) [ none ↦ false | some d ↦ true ]) (sym first-is)
+            ap bareIn call-here
+            ∙ ap (λ m. eqb m 1 && elim (delimiters (head (part (from + (i + 3)) k w))) [ some d ↦ true | none ↦ false ]) inner-long
+            ∙ ap (λ x. eqb k 1 && elim (delimiters x) [ some d ↦ true | none ↦ false ]) (sym first-is)
             ∙ ap (λ b. eqb k 1 && b) (delimiter-is first)
 
-        pub bare-here : eqb k 1 && isDelimiter first ≡ true → comes bareDelimiter lrCalling source i ≡ true
+        pub bare-here : eqb k 1 && isDelimiter first ≡ true → comes bareDelimiter lr source i ≡ true
         bare-here t =
-            comes-turn bareDelimiter lrCalling source i inside-i refl
-            ∙ ap (λ b. b || comes bareDelimiter lrCalling source (i + 1 + lrCalling (getD (0 ∷ source) i 0) (drop i source) .more)) (bare-is ∙ t)
+            comes-turn bareDelimiter lr source i inside-i refl
+            ∙ ap (λ b. b || comes bareDelimiter lr source (i + 1 + lr (getD (0 ∷ source) i 0) (drop i source) .more)) (bare-is ∙ t)
 
-        pub sized-here : eqb k 1 && isDelimiter first ≡ false → comes bareDelimiter lrCalling source i ≡ comes bareDelimiter lrCalling source (i + 3 + k + 1)
+        pub sized-here : eqb k 1 && isDelimiter first ≡ false → comes bareDelimiter lr source i ≡ comes bareDelimiter lr source (i + 3 + k + 1)
         sized-here t =
             let l = inner-long in
             let next : i + 1 + (3 + length (part (from + (i + 3)) k w)) ≡ i + 3 + k + 1 = omega arith in
-            comes-turn bareDelimiter lrCalling source i inside-i (ap (rewritten lrName sizedInside (drop i source)) call-here)
-            ∙ ap (λ b. b || comes bareDelimiter lrCalling source (i + 1 + (3 + length (part (from + (i + 3)) k w)))) (bare-is ∙ t)
-            ∙ ap (comes bareDelimiter lrCalling source) next
+            comes-turn bareDelimiter lr source i inside-i (ap (rewritten lrName latexLr (drop i source)) call-here)
+            ∙ ap (λ b. b || comes bareDelimiter lr source (i + 1 + (3 + length (part (from + (i + 3)) k w)))) (bare-is ∙ t)
+            ∙ ap (comes bareDelimiter lr source) next
 
-        pub sized-written : sizedBy (part (from + (i + 3)) k w) (delimiters first) ≡ sizedInside (take k (drop (i + 3) source))
-        sized-written = ap (λ x. sizedBy (part (from + (i + 3)) k w) (delimiters x)) first-is ∙ ap sizedInside inner-read
+        pub sized-written : sizedBy (part (from + (i + 3)) k w) (delimiters first) ≡ latexLr (take k (drop (i + 3) source))
+        sized-written = ap (λ x. sizedBy (part (from + (i + 3)) k w) (delimiters x)) first-is ∙ ap latexLr inner-read

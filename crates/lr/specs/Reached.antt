@@ -50,15 +50,6 @@ module _ (test : List ℕ → Bool) where
   unfolding comes reached
   comes-end rule s i h = rw (drop-of-length-le s h)
 
-  pub reached-same :
-      (r r′ : Rule) → ((before : ℕ) (s : List ℕ) → r before s ≡ r′ before s)
-      → (s : List ℕ) (before skip : ℕ) → reached test r before skip s ≡ reached test r′ before skip s
-  unfolding reached
-  reached-same r r′ same [] before skip = refl
-  reached-same r r′ same (x ∷ s) before zero =
-      ap (λ b. test (x ∷ s) || b) (reached-same r r′ same s x (r before (x ∷ s) .more) ∙ ap (λ (t : Turn). reached test r′ x (t .more) s) (same before (x ∷ s)))
-  reached-same r r′ same (x ∷ s) before (suc skip) = reached-same r r′ same s x skip
-
   -- a test that does not hold where the pattern does not stand
   pub reached-absent :
       {pattern : List ℕ} {rule : Rule} → Waits pattern rule → ((s : List ℕ) → starts pattern s ≡ false → test s ≡ false)

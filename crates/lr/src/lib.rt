@@ -6,12 +6,12 @@ use text::Refusal;
 ghost use Prim.Native.Nat.{_+_, _≤_, _<_};
 ghost use mathlib.Core.Path.{_≡_};
 ghost use lib.ListN.{length};
-ghost use Rattle.spec.specs.Finish.{delimiters, sizedBy, convertLr};
+ghost use Rattle.spec.specs.Finish.{delimiters, convertLr};
 ghost use Rattle.symbols.specs.Parts.{part};
 ghost use Rattle.text.specs.Writer.{Room, Appended, Apart, Regions};
 ghost use Rattle.text.specs.Stage.{Ready, Staged};
 ghost use Rattle.delimiters.specs.Delimiters.{Called};
-ghost use Rattle.lr.specs.Lr.{lrName, isDelimiter, EndedBy};
+ghost use Rattle.lr.specs.Lr.{lrName, isDelimiter, sizedBy, EndedBy};
 
 // What the loop comes to: the finished text's length, or a bare delimiter.
 pub enum Ended {

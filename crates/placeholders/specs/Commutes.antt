@@ -15,7 +15,7 @@ use lib.ListN.{length, drop, length-append}
 use lib.Seq.{drop-append-seam}
 use borrow.Author.Tests.{ne-eqb, eqb-true, eqb-false, le-leb}
 use Rattle.spec.specs.Symbols.{digit, head, starts, textMark, romanMark}
-use Rattle.spec.specs.Sweep.{Turn, Rule, kept, taking, sweep}
+use Rattle.spec.specs.Sweep.{Turn, Rule, kept, taken, sweep}
 use Rattle.spec.specs.Held.{placeholder}
 use Rattle.held.specs.Decimal.{decimal, Digits, decimal-digits}
 use Rattle.held.specs.Marks.{isMark, hasMark, first, rest, fill, or-false}
@@ -120,8 +120,8 @@ module _ {rule : Rule} (between : Between rule) where
 
   -- the turn where the name stands or doesn't, and is allowed or not
   turn-is : (b : ℕ) (s : List ℕ) (t a : Bool) → starts name s ≡ t → between .allowed b (head (drop (length name) s)) ≡ a
-      → rule b s ≡ cond (t && a) (taking name (between .fresh b (head (drop (length name) s)))) (kept s)
-  turn-is b s t a e f = between .same b s ∙ ap₂ (λ t a. cond (t && a) (taking name (between .fresh b (head (drop (length name) s)))) (kept s)) e f
+      → rule b s ≡ cond (t && a) (taken (length name) (between .fresh b (head (drop (length name) s)))) (kept s)
+  turn-is b s t a e f = between .same b s ∙ ap₂ (λ t a. cond (t && a) (taken (length name) (between .fresh b (head (drop (length name) s)))) (kept s)) e f
 
   keeps : (b x : ℕ) (s : List ℕ) → starts name (x ∷ s) ≡ false → sweep rule b 0 (x ∷ s) ≡ x ∷ sweep rule x 0 s
   keeps b x s e = sweep-turn rule b x s (kept (x ∷ s)) (turn-is b (x ∷ s) false _ e refl)
@@ -146,10 +146,10 @@ module _ {rule : Rule} (between : Between rule) where
       let split = between .a-name .split in
       let behind = drop-append-seam name z in
       let long : pred (length name) ≡ length more = (let e = ap length split in omega arith) in
-      let turn : rule b (name ++ z) ≡ taking name (between .fresh b (head z)) =
-      turn-is b (name ++ z) true true met (ap (λ l. between .allowed b (head l)) behind ∙ a) ∙ ap (λ l. taking name (between .fresh b (head l))) behind in
+      let turn : rule b (name ++ z) ≡ taken (length name) (between .fresh b (head z)) =
+      turn-is b (name ++ z) true true met (ap (λ l. between .allowed b (head l)) behind ∙ a) ∙ ap (λ l. taken (length name) (between .fresh b (head l))) behind in
       ap (λ w. sweep rule b 0 (w ++ z)) split
-      ∙ sweep-turn rule b start (more ++ z) (taking name (between .fresh b (head z))) (ap (λ w. rule b (w ++ z)) (sym split) ∙ turn)
+      ∙ sweep-turn rule b start (more ++ z) (taken (length name) (between .fresh b (head z))) (ap (λ w. rule b (w ++ z)) (sym split) ∙ turn)
       ∙ ap (λ n. between .fresh b (head z) ++ sweep rule start n (more ++ z)) long
       ∙ ap (λ l. between .fresh b (head z) ++ l) (sweep-skip rule more z start)
 

@@ -8,11 +8,11 @@ use lib.ListN.{length}
 use Rattle.spec.specs.Symbols.{bytes, starts, ends, contains, find}
 use Rattle.spec.specs.Sweep.{sweep}
 use Rattle.spec.specs.Result.{stage}
-use Rattle.spec.specs.Calls.{callAt, rewritten, calling, convertCalls, casesFrom, convertCases, attachFrom, attachOnce, attachTimes, convertAttach, binomAt, binom, convertBinom}
+use Rattle.spec.specs.Calls.{callAt, rewritten, calling, convertCalls, casesOnce, convertCases, attachOnce, attachTimes, convertAttach, binom, convertBinom}
 use Rattle.spec.specs.Quotes.{quotes, convertTextQuotes}
 use Rattle.spec.specs.Words.{parenToBrace, convertSqrt}
 use Rattle.spec.specs.Scripts.{wrapText, wrapTextSubscripts}
-use Rattle.spec.specs.Finish.{lrTurn, lr, bareInside, bareDelimiter, convertLr, convertAlignment, thinSpaces, dropThinSpaceAfterCommands}
+use Rattle.spec.specs.Finish.{latexLr, lr, bareDelimiter, convertLr, convertAlignment, thinSpaces, dropThinSpaceAfterCommands}
 use Rattle.printing.specs.Classes.{and-left, and-right, not-true}
 use Rattle.printing.specs.Local.{absent}
 use Rattle.printing.specs.Sweeps.{ActsAt, sweep-absent, reached-absent}
@@ -37,7 +37,7 @@ unfolding convertCalls
 calls-copy name write s h = sweep-absent (calling-acts name write) s h
 
 binom-acts : ActsAt (bytes "binom(") binom
-binom-acts = record { idle = λ before s e. ap (binomAt s) (no-call (bytes "binom(") s e) }
+binom-acts = record { idle = λ before s e. rw (no-call (bytes "binom(") s e) }
 
 pub binom-copies : (s : List ℕ) → absent (bytes "binom(") s ≡ true → convertBinom s ≡ s
 unfolding convertBinom
@@ -50,12 +50,12 @@ find-absent w [] h = refl
 find-absent w (x ∷ s) h = rw (here w x s h, find) (find-absent w s (later w x s h))
 
 pub cases-copy : (s : List ℕ) → absent (bytes "cases(") s ≡ true → convertCases s ≡ s
-unfolding convertCases
-cases-copy s h = ap (casesFrom s) (find-absent (bytes "cases(") s h)
+unfolding convertCases casesOnce
+cases-copy s h = rw (find-absent (bytes "cases(") s h)
 
 no-attach : (s : List ℕ) → absent (bytes "attach(") s ≡ true → attachOnce s ≡ none
 unfolding attachOnce
-no-attach s h = ap (attachFrom s) (find-absent (bytes "attach(") s h)
+no-attach s h = rw (find-absent (bytes "attach(") s h)
 
 attach-times-copy : (k : ℕ) (s : List ℕ) → absent (bytes "attach(") s ≡ true → attachTimes k s ≡ s
 unfolding attachTimes
@@ -92,14 +92,11 @@ unfolding wrapTextSubscripts
 wrap-text-copies sign s h = sweep-absent (wrap-text-acts sign) s h
 
 -- ---- lr
-lr-acts : ActsAt (bytes "lr(") lr
-lr-acts = record { idle = λ before s e. ap (lrTurn s) (no-call (bytes "lr(") s e) }
-
 no-bare : (s : List ℕ) → starts (bytes "lr(") s ≡ false → bareDelimiter s ≡ false
-no-bare s e = ap bareInside (no-call (bytes "lr(") s e)
+no-bare s e = rw (no-call (bytes "lr(") s e, bareDelimiter)
 
 pub lr-sweep-copies : (s : List ℕ) → absent (bytes "lr(") s ≡ true → sweep lr 0 0 s ≡ s
-lr-sweep-copies s h = sweep-absent lr-acts s h
+lr-sweep-copies s h = sweep-absent (calling-acts (bytes "lr(") latexLr) s h
 
 pub lr-is-stage : (s : List ℕ) → absent (bytes "lr(") s ≡ true → convertLr s ≡ stage (sweep lr 0 0) s
 unfolding convertLr

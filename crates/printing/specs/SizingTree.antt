@@ -1,6 +1,6 @@
 -- Sizing a stacked tree: a group with a fraction in it, outside scripts, gets \left and \right.
 use mathlib.Core.Path.{_≡_, refl, sym, ap, _∙_}
-use mathlib.Core.Bool.{Bool, true, false, not, _&&_}
+use mathlib.Core.Bool.{Bool, true, false, not, _&&_, cond}
 use mathlib.Core.List.{List, [], _∷_, _++_, append-nil, append-assoc, reverseAux, reverseAux-append}
 use mathlib.Core.Option.{Option, none, some}
 use Prim.Native.Nat.{ℕ, zero, suc, pred, _-_, _≤_}
@@ -11,7 +11,7 @@ use lib.ListN.{length, take, length-append}
 use lib.Seq.{take-append-seam}
 use Rattle.spec.specs.Symbols.{bytes, alnum, all, starts, until}
 use Rattle.spec.specs.Closing.{close}
-use Rattle.spec.specs.Finish.{tall, scriptGroup, closing, alreadySized, Group, ifTall, groupWith, tallGroup, leftRight, groupStep, scriptStep, sizeStep, sizeWith, sizeDelimitersToContent}
+use Rattle.spec.specs.Finish.{tall, scriptGroup, closing, alreadySized, Group, tallGroup, leftRight, sizeStep, sizeWith, sizeDelimitersToContent}
 use Rattle.spec.specs.Grammar.{Atom}
 use Rattle.printing.specs.Tree.{Tree, Script, Join, beside, plus, minus, atom, fraction, group, row, bare, symbol, inner, atomText, joinText, parens, slashless, depth, Plain, braced, final, write, writeScript}
 use Rattle.printing.specs.Classes.{apart, and-left, and-right, and-false, noneOf, excludes, all-weaken}
@@ -55,14 +55,14 @@ quiet-group : (x : ℕ) → quiet x ≡ true → (o s : List ℕ) → tallGroup 
 unfolding tallGroup
 quiet-group x h o s =
     let alone : closing x ≡ none = rw (apart quiet x (code "(") h refl, closing, apart quiet x (code "[") h refl) in
-    no-group (alreadySized o) (groupWith x s (closing x)) (ap (groupWith x s) alone)
+    no-group (alreadySized o) _ (rw alone)
 
 quiet-script : (x : ℕ) → quiet x ≡ true → (s : List ℕ) → scriptGroup x s ≡ none
 quiet-script x h s = rw (apart quiet x (code "_") h refl, scriptGroup, apart quiet x (code "^") h refl)
 
 step : (f x : ℕ) (o s : List ℕ) → scriptGroup x s ≡ none → tallGroup o x s ≡ none → sizeWith (suc f) o (x ∷ s) ≡ x ∷ sizeWith f (x ∷ o) s
 unfolding sizeWith sizeStep
-step f x o s p q = ap (scriptStep (sizeWith f) o x s) p ∙ ap (groupStep (sizeWith f) o x s) q
+step f x o s p q = rw (p, sizeWith, sizeStep, q)
 
 run-sized : (w : List ℕ) → all quiet w ≡ true → (o : List ℕ) → SizesAt o w w
 run-sized [] h o f r e = record { left = f; enough = e; sizes = refl }
@@ -96,18 +96,18 @@ sized-nothing (suc f) o = refl
 
 -- the group that a parenthesis opens, tall or not
 paren-group : (c : Bool) (s : List ℕ) → Nest s → tall s ≡ c → {o : List ℕ} → Edge o → (r : List ℕ)
-    → _≡_ {A = Option Group} (tallGroup o (code "(") (s ++ code ")" ∷ r)) (elim c as (λ c. Option Group) [ true ↦ some (record { closer = (code ")"); content = s; behind = r }) | false ↦ none ])
+    → _≡_ {A = Option Group} (tallGroup o (code "(") (s ++ code ")" ∷ r)) (cond c (some (record { closer = (code ")"); content = s; behind = r })) none)
 unfolding tallGroup close
 paren-group c s m e {o} edge r =
     let closed : close (code "(") (code ")") 0 (s ++ code ")" ∷ r) ≡ some r = close-through m 0 (code ")" ∷ r) in
     let count : pred (length (s ++ code ")" ∷ r) - length r) ≡ length s = omega (arith, length-append s (code ")" ∷ r)) in
     let within : take (pred (length (s ++ code ")" ∷ r) - length r)) (s ++ code ")" ∷ r) ≡ s = rw count (take-append-seam s (code ")" ∷ r)) in
-    rw (not-sized edge, closed) (ap (λ (m : List ℕ). ifTall (code ")") m r) within ∙ rw (e, ifTall))
+    rw (not-sized edge, closed, within, e)
 
 group-step : (f : ℕ) (o u : List ℕ) (g : Group) → tallGroup o (code "(") u ≡ some g
     → let m : List ℕ = leftRight (code "(") (g .closer) (sizeWith f [] (g .content)) in sizeWith (suc f) o (code "(" ∷ u) ≡ m ++ sizeWith f (reverseAux m o) (g .behind)
 unfolding sizeWith sizeStep
-group-step f o u g e = ap (groupStep (sizeWith f) o (code "(") u) e
+group-step f o u g e = rw e
 
 group-sized : (c : Bool) (s w : List ℕ) → Nest s → tall s ≡ c → ((o : List ℕ) → Edge o → SizesAt o s w) → (o : List ℕ) → Edge o → SizesAt o (code "(" ∷ (s ++ code ")" ∷ [])) (parens c w)
 group-sized c s w m e sizes o edge zero r h = absurd (omega arith)
@@ -159,7 +159,7 @@ symbol-sized {m} mk c e o (suc f) r h =
 
 script-step : (f x : ℕ) (o s r : List ℕ) → scriptGroup x s ≡ some r → sizeWith (suc f) o (x ∷ s) ≡ until (x ∷ s) r ++ sizeWith f (reverseAux (until (x ∷ s) r) o) r
 unfolding sizeWith sizeStep
-script-step f x o s r e = ap (scriptStep (sizeWith f) o x s) e
+script-step f x o s r e = rw (e, sizeWith, sizeStep)
 
 inner-sized : {m : ℕ} → Marker m → {s : List ℕ} → Nest s → (o : List ℕ) → SizesAt o (m ∷ code "{" ∷ (s ++ code "}" ∷ [])) (m ∷ code "{" ∷ (s ++ code "}" ∷ []))
 inner-sized mk n o zero r h = absurd (omega arith)

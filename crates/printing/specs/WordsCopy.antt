@@ -7,7 +7,7 @@ use Prim.Native.Char.{code}
 use lib.Dec.{eqb, eqb→eq}
 use lib.ListN.{length, take, drop}
 use Rattle.spec.specs.Symbols.{is, letter, digit, alnum, wordly, scriptSign, head, past, starts}
-use Rattle.spec.specs.Sweep.{Turn, Rule, kept, taking, sweep, replacing}
+use Rattle.spec.specs.Sweep.{Turn, Rule, kept, taken, sweep, replacing}
 use Rattle.spec.specs.Rows.{Row}
 use Rattle.spec.specs.Words.{word, capital, literal, wordOrLiteral}
 use Rattle.printing.specs.Tree.{Tree, markedStyle, write}
@@ -45,7 +45,7 @@ starts-take (k ∷ w) (x ∷ s) h =
 
 -- found, spared
 abbrev turn : List ℕ → List ℕ → List ℕ → Bool → Bool → Turn
-turn w v s found spared = cond found (taking w (cond spared w v)) (kept s)
+turn w v s found spared = cond found (taken (length w) (cond spared w v)) (kept s)
 
 spared-copies : (k : ℕ) (w v s : List ℕ) (found spared : Bool) → (found ≡ true → starts (k ∷ w) s ≡ true) → (found ≡ true → spared ≡ true)
     → turn (k ∷ w) v s found spared .fresh ≡ take (suc (turn (k ∷ w) v s found spared .more)) s

@@ -7,14 +7,14 @@ use mathlib.Core.Path.{_≡_, refl, sym, ap, ap₂, _∙_}
 use mathlib.Core.Bool.{Bool, true, false, cond, _&&_}
 use mathlib.Core.List.{List, [], _++_, append-nil}
 use mathlib.Core.Option.{Option, none, some}
-use Prim.Native.Nat.{ℕ, pred, _+_, _-_, _≤_, _<_}
+use Prim.Native.Nat.{ℕ, suc, pred, _+_, _-_, _≤_, _<_}
 use native.Mathlib.Omega.{arith}
 use lib.Dec.{ltb}
 use lib.ListN.{length, getD, take, drop, length-drop, drop-of-length-le}
 use lib.Seq.{drop-drop, length-take-le}
 use borrow.Author.Tests.{lt-ltb, le-ltb}
 use Rattle.spec.specs.Symbols.{bytes, alnum, past, until, inside, dropWhile, starts}
-use Rattle.spec.specs.Sweep.{Turn, Rule, kept, replacing}
+use Rattle.spec.specs.Sweep.{Turn, Rule, taken, kept, replacing}
 use Rattle.spec.specs.Closing.{findMatchingParen, findMatchingBrace}
 use Rattle.spec.specs.Words.{braced, parenToBrace}
 use Rattle.spec.specs.Laws.Symbols.{starts-long, past-drop, drop-step}
@@ -35,7 +35,7 @@ ending closed = cond closed (bytes "}") []
 
 abbrev pub turnOf : List ℕ → List ℕ → Edit → Turn
 turnOf left s Copy = kept s
-turnOf left s (Write span taken closed) = record { more = pred taken; fresh = left ++ spanned span s ++ ending closed }
+turnOf left s (Write span n closed) = taken n (left ++ spanned span s ++ ending closed)
 
 -- the symbols that are kept are among those that are taken, and these are in the text
 pub record Fits (s : List ℕ) (span : Span) (taken : ℕ) : Type 0 where
@@ -55,7 +55,7 @@ pub record Edited (rule : Rule) (left s : List ℕ) (r : Edit) : Type 0 where
 -- ---- the rules of the scripts, with the pattern and the text that is written for it
 abbrev pub wrappedBy : List ℕ → List ℕ → Option (List ℕ) → Turn
 wrappedBy left s none = kept s
-wrappedBy left s (some behind) = let block = until (past s) behind in record { more = length block; fresh = left ++ block ++ bytes "}" }
+wrappedBy left s (some behind) = let block = until (past s) behind in taken (suc (length block)) (left ++ block ++ bytes "}")
 
 abbrev pub wrapTextBy : List ℕ → List ℕ → Rule
 wrapTextBy pattern left before s = elim (starts pattern s) [ true ↦ wrappedBy left s (findMatchingBrace (drop (length pattern) s)) | false ↦ kept s ]
@@ -63,7 +63,7 @@ wrapTextBy pattern left before s = elim (starts pattern s) [ true ↦ wrappedBy 
 abbrev pub wrapMulticharBy : List ℕ → List ℕ → Rule
 wrapMulticharBy pattern left before s =
     let ident = until (past s) (dropWhile alnum (past s)) in
-    cond (starts pattern s && ltb 1 (length ident)) (record { more = length ident; fresh = left ++ ident ++ bytes "}" }) (kept s)
+    cond (starts pattern s && ltb 1 (length ident)) (taken (suc (length ident)) (left ++ ident ++ bytes "}")) (kept s)
 
 abbrev pub ruleOf : Kind → List ℕ → List ℕ → Rule
 ruleOf Literal pattern left = replacing pattern left
@@ -146,7 +146,7 @@ module _ {pattern s : List ℕ} (met : Met pattern s) (left : List ℕ) where
     paren-open e =
         let b = drop (length pattern) s in
         let l = length-drop (length pattern) s in let g = long in let h = met .some in
-        let m : pred (length pattern) + length b ≡ pred (length s) = omega arith in
+        let m : pred (length pattern + length b) ≡ pred (length s) = omega arith in
         record {
           sound = record { order = omega arith; inside = omega arith; some = omega arith; within = omega arith };
           turn = λ before. rw (met .starts-with, parenToBrace)

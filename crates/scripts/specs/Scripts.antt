@@ -8,7 +8,7 @@ use native.Mathlib.Omega.{arith}
 use lib.Dec.{eqb}
 use lib.ListN.{length, drop}
 use Rattle.spec.specs.Symbols.{bytes, starts}
-use Rattle.spec.specs.Sweep.{sweep, kept}
+use Rattle.spec.specs.Sweep.{taken, kept, sweep}
 use Rattle.spec.specs.Closing.{findMatchingBrace}
 use Rattle.spec.specs.Scripts.{wrappedText, wrapText, wrapTextSubscripts, wrapMultichar, wrapMulticharScripts}
 use Rattle.spec.specs.Laws.Sweep.{sweep-same}
@@ -31,5 +31,5 @@ module _ (sign : ℕ) where
   wrap-multichar-same s = sweep-same (wrapMulticharBy (sign ∷ []) (sign ∷ bytes "{")) (wrapMultichar sign) (length s) same s 0 0 (omega arith)
     where
       same : (before : ℕ) (t : List ℕ) → length t ≤ length s → wrapMulticharBy (sign ∷ []) (sign ∷ bytes "{") before t ≡ wrapMultichar sign before t
-      same before [] h = ap (λ (b : Bool). cond b (record { more = 0; fresh = sign ∷ bytes "{}" }) (kept [])) (sym (and-false (eqb 0 sign)))
+      same before [] h = ap (λ (b : Bool). cond b (taken 1 (sign ∷ bytes "{}")) (kept [])) (sym (and-false (eqb 0 sign)))
       same before (x ∷ t) h = refl

@@ -10,8 +10,8 @@ use Prim.Native.Nat.{ℕ, zero, suc}
 use lib.Dec.{eqb}
 use lib.ListN.{length}
 use Rattle.spec.specs.Symbols.{bytes, all, starts, until}
-use Rattle.spec.specs.Finish.{scriptGroup, closing, alreadySized, Group, groupWith, tallGroup, leftRight, groupStep, scriptStep, sizeStep, sizeWith}
-use Rattle.sizing.specs.Levels.{sizes}
+use Rattle.spec.specs.Finish.{scriptGroup, closing, alreadySized, Group, tallGroup, leftRight, sizeStep, sizeWith}
+use Rattle.sizing.specs.Levels.{groupWith, groupStep, scriptStep, sizes}
 
 abbrev pub Closer : ℕ → Type 0
 Closer c = (c ≡ 41) ⊎ (c ≡ 93)

@@ -3,7 +3,7 @@
 --     size-step     it is one step, and sizing again
 -- Assumes nothing.
 use mathlib.Core.Path.{_≡_, refl, sym, ap, _∙_}
-use mathlib.Core.Bool.{Bool, true, false, _&&_, _||_, false≢true}
+use mathlib.Core.Bool.{Bool, true, false, cond, _&&_, _||_, false≢true}
 use mathlib.Core.List.{List, [], _∷_, _++_, reverseAux}
 use mathlib.Core.Option.{Option, none, some}
 use Prim.Native.Nat.{ℕ, zero, suc, pred, _-_, _≤_, _<_}
@@ -12,9 +12,9 @@ use native.Mathlib.Omega.{arith}
 use lib.Dec.{eqb}
 use lib.ListN.{length, getD, take, length-take}
 use borrow.Author.Tests.{eqb-true}
-use Rattle.spec.specs.Symbols.{bytes, is, scriptSign, head, past, until, inside, starts, contains}
+use Rattle.spec.specs.Symbols.{bytes, is, _andThen_, scriptSign, head, past, until, inside, starts, contains}
 use Rattle.spec.specs.Closing.{Side, opens, closes, neither, sideOf, close, matchingDelimiter}
-use Rattle.spec.specs.Finish.{scriptGroup, closing, alreadySized, Group, tall, ifTall, groupOf, groupWith, tallGroup, leftRight, groupStep, scriptStep, sizeStep, sizeWith, sizeDelimitersToContent}
+use Rattle.spec.specs.Finish.{scriptGroup, closing, alreadySized, Group, tall, tallGroup, leftRight, sizeStep, sizeWith, sizeDelimitersToContent}
 
 -- ---- what stands behind a closer is shorter, and the closer stands before it
 pub record Behind (c : ℕ) (s r : List ℕ) : Type 0 where
@@ -74,6 +74,33 @@ script-short x s r e = go (scriptSign x && is "{" (head s)) e
     go true e = let b = close-behind 123 125 0 (past s) r e .shorter in let p = past-short s in omega arith
     go false e = let z : _≡_ {A = ℕ} 0 1 = cc in absurd (omega arith)
 
+-- ---- the parts of a step, by what has been found
+abbrev Sizer : Type 0
+Sizer = List ℕ → List ℕ → List ℕ
+
+abbrev pub ifTall : ℕ → List ℕ → List ℕ → Option Group
+ifTall c m r = cond (tall m) (some (record { closer = c; content = m; behind = r })) none
+
+abbrev pub groupOf : ℕ → List ℕ → Option (List ℕ) → Option Group
+groupOf c s q = q andThen λ r. ifTall c (inside s r) r
+
+abbrev pub groupWith : ℕ → List ℕ → Option ℕ → Option Group
+groupWith x s q = q andThen λ c. groupOf c s (close x c 0 s)
+
+abbrev pub groupStep : Sizer → List ℕ → ℕ → List ℕ → Option Group → List ℕ
+groupStep go o x s q =
+    elim q [
+      | some g ↦ let sized = leftRight x (g .closer) (go [] (g .content)) in sized ++ go (reverseAux sized o) (g .behind)
+      | none ↦ x ∷ go (x ∷ o) s
+    ]
+
+abbrev pub scriptStep : Sizer → List ℕ → ℕ → List ℕ → Option (List ℕ) → List ℕ
+scriptStep go o x s q =
+    elim q [
+      | some r ↦ let group = until (x ∷ s) r in group ++ go (reverseAux group o) r
+      | none ↦ groupStep go o x s (tallGroup o x s)
+    ]
+
 -- a tall group: its parts are no longer than the text, and its closer stands before what is behind
 pub record Parts (s : List ℕ) (g : Group) : Type 0 where
   pub content : length (g .content) ≤ length s
@@ -83,7 +110,7 @@ module _ (x : ℕ) (s : List ℕ) (g : Group) where
   if-tall-parts : (c : ℕ) (m r : List ℕ) → length m ≤ length s → length r ≤ length s → ifTall c m r ≡ some g → Parts s g
   if-tall-parts c m r hm hr e = go (tall m) e
     where
-      go : (t : Bool) → _≡_ {A = Option Group} (elim t [ true ↦ some (record { closer = c; content = m; behind = r }) | false ↦ none ]) (some g) → Parts s g
+      go : (t : Bool) → _≡_ {A = Option Group} (cond t (some (record { closer = c; content = m; behind = r })) none) (some g) → Parts s g
       go true e =
           let f : _≡_ {A = Group} (record { closer = c; content = m; behind = r }) g = cc in
           let a = ap (λ (h : Group). length (h .content)) f in let b = ap (λ (h : Group). length (h .behind)) f in
@@ -110,9 +137,6 @@ module _ (x : ℕ) (s : List ℕ) (g : Group) where
       go false e = with-closer (closing x) e
 
 -- ---- a step looks at shorter texts alone
-abbrev Sizer : Type 0
-Sizer = List ℕ → List ℕ → List ℕ
-
 step-same : (f g : Sizer) (o : List ℕ) (x : ℕ) (s : List ℕ) → ((p t : List ℕ) → length t ≤ length s → f p t ≡ g p t) → sizeStep f o (x ∷ s) ≡ sizeStep g o (x ∷ s)
 unfolding sizeStep
 step-same f g o x s same = script (scriptGroup x s) refl

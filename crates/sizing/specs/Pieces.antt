@@ -13,17 +13,17 @@ use native.Mathlib.Omega.{arith}
 use lib.Dec.{eqb}
 use lib.ListN.{length, getD, take, drop, length-take, length-drop, length-reverse, take-append-drop}
 use lib.Seq.{drop-drop, take-add, take-all, take-append-seam, getD-drop}
-use borrow.Author.Tests.{eqb-true, eq-eqb, ne-eqb}
+use borrow.Author.Tests.{eq-eqb, ne-eqb}
 use Rattle.spec.specs.Symbols.{bytes, is, scriptSign, head, until, inside, starts}
 use Rattle.spec.specs.Closing.{close, matchingDelimiter}
-use Rattle.spec.specs.Finish.{scriptGroup, closing, alreadySized, Group, tall, ifTall, groupOf, groupWith, tallGroup, leftRight, groupStep, scriptStep, sizeDelimitersToContent}
-use Rattle.spec.specs.Laws.Symbols.{drop-step, head-drop, starts-short}
+use Rattle.spec.specs.Finish.{scriptGroup, closing, alreadySized, Group, tall, tallGroup, leftRight, sizeDelimitersToContent}
+use Rattle.spec.specs.Laws.Symbols.{drop-step, head-drop, starts-take, starts-short}
 use Rattle.symbols.specs.Parts.{part, drop-take}
 use Rattle.search.specs.Search.{Closes, closes-at, closes-within, closes-nothing, reach, inside-drop, until-drop}
 use Rattle.text.specs.Filling.{passed-by, passed-more}
 use Rattle.search.specs.declared.Found.{Found}
 use Rattle.search.specs.declared.Found.the-variants.{At, Nothing}
-use Rattle.sizing.specs.Levels.{sizes, sizes-first, size-step, close-behind}
+use Rattle.sizing.specs.Levels.{ifTall, groupOf, groupWith, groupStep, scriptStep, sizes, sizes-first, size-step, close-behind}
 use Rattle.sizing.specs.Alike.{Closer, group, sizes-alike}
 use Rattle.sizing.specs.declared.Piece.{Piece}
 use Rattle.sizing.specs.declared.Piece.the-variants.{Keep, Tall}
@@ -42,15 +42,6 @@ unfoldable pub sizedAt : List ℕ → ℕ → List ℕ
 sizedAt s i = sizes (passed-by s i) (drop i s)
 
 -- ---- a word that stands right before a place
-starts-eq : (w s : List ℕ) → starts w s ≡ true → take (length w) s ≡ w
-starts-eq [] s e = refl
-starts-eq (k ∷ w) [] e = let z : _≡_ {A = ℕ} 0 1 = cc in absurd (omega arith)
-starts-eq (k ∷ w) (x ∷ s) e = go (starts w s) refl e (starts-eq w s)
-  where
-    go : (t : Bool) → starts w s ≡ t → t && eqb x k ≡ true → (starts w s ≡ true → take (length w) s ≡ w) → x ∷ take (length w) s ≡ k ∷ w
-    go true f e rest = ap₂ (λ y t. y ∷ t) (eqb-true x k e) (rest f)
-    go false f e rest = let z : _≡_ {A = ℕ} 0 1 = cc in absurd (omega arith)
-
 starts-own : (w t : List ℕ) → starts w (w ++ t) ≡ true
 starts-own [] t = refl
 starts-own (k ∷ w) t = ap₂ (λ a b. a && b) (starts-own w t) (eq-eqb k k refl)
@@ -65,12 +56,12 @@ starts-back w x v e = go (starts w x) refl (starts (reverse w) (reverse (v ++ x)
     go : (a : Bool) → starts w x ≡ a → (b : Bool) → starts (reverse w) (reverse (v ++ x)) ≡ b → a ≡ b
     go true f true g = refl
     go true f false g =
-        let same : x ≡ w = sym (take-all (length w) x (omega arith)) ∙ starts-eq w x f in
+        let same : x ≡ w = sym (take-all (length w) x (omega arith)) ∙ starts-take w x f in
         sym (starts-own (reverse w) (reverse v)) ∙ ap (λ t. starts (reverse w) (reverse t ++ reverse v)) (sym same) ∙ ap (starts (reverse w)) (sym split) ∙ g
     go false f true g =
         let lw = length-reverse w in let lx = length-reverse x in
         let n : length (reverse w) ≡ length (reverse x) = omega arith in
-        let met = starts-eq (reverse w) (reverse (v ++ x)) g in
+        let met = starts-take (reverse w) (reverse (v ++ x)) g in
         let back : reverse x ≡ reverse w =
         sym (take-append-seam (reverse x) (reverse v)) ∙ ap (λ k. take k (reverse x ++ reverse v)) (sym n) ∙ ap (take (length (reverse w))) (sym split) ∙ met
         in
@@ -126,7 +117,7 @@ module _ (s : List ℕ) (o c : ℕ) {r : Found} (f : Closes s r (close o c 0 s))
     found = ap (groupOf c s) (closes-at f e) ∙ ap (λ m. ifTall c m (drop (k + 1) s)) (inside-drop s k (closes-within f e))
 
     pub tall-low : tall (take k s) ≡ false → TallIn s o c Nothing
-    tall-low t = record { within = omega arith; group = found ∙ ap (λ b. elim b [ true ↦ some (record { closer = c; content = take k s; behind = drop (k + 1) s }) | false ↦ none ]) t; closes = tt }
+    tall-low t = record { within = omega arith; group = found ∙ ap (λ b. cond b (some (record { closer = c; content = take k s; behind = drop (k + 1) s })) none) t; closes = tt }
 
     pub tall-high : tall (take k s) ≡ true → TallIn s o c (At k)
     tall-high t =
@@ -136,7 +127,7 @@ module _ (s : List ℕ) (o c : ℕ) {r : Found} (f : Closes s r (close o c 0 s))
         let n : length s - suc (length (drop (k + 1) s)) ≡ k = omega arith in
         record {
           within = omega arith;
-          group = found ∙ ap (λ b. elim b [ true ↦ some (record { closer = c; content = take k s; behind = drop (k + 1) s }) | false ↦ none ]) t;
+          group = found ∙ ap (λ b. cond b (some (record { closer = c; content = take k s; behind = drop (k + 1) s })) none) t;
           closes = ap (λ m. getD s m 0) (sym n) ∙ b .closer;
         }
 

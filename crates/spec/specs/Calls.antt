@@ -2,27 +2,29 @@
 --     callAt         what stands inside the call that the text begins with, if its parenthesis is closed
 --     rewritten      the turn of a call rewriting: where no closer is found, one symbol is copied
 -- Assumes nothing.
-use mathlib.Core.Bool.{Bool, true, false}
+use mathlib.Core.Bool.{true, false, cond}
 use mathlib.Core.List.{List, [], _∷_, _++_, map}
-use mathlib.Core.Option.{Option, none, some}
+use mathlib.Core.Option.{Option, none, some, Option·getD}
 use Prim.Native.Nat.{ℕ, zero, suc, _+_}
 use lib.ListN.{length, drop}
-use Rattle.spec.specs.Symbols.{bytes, is, empty, until, inside, dropWhileEnd, trim, trimQuotes, starts, find}
-use Rattle.spec.specs.Sweep.{Turn, Rule, kept, sweep, replace}
+use Rattle.spec.specs.Symbols.{bytes, is, _andThen_, empty, until, inside, dropWhileEnd, trim, trimQuotes, starts, find}
+use Rattle.spec.specs.Sweep.{Turn, Rule, taken, kept, sweep, replace}
 use Rattle.spec.specs.Result.{Result, _then_, stage}
 use Rattle.spec.specs.Closing.{findMatchingParen, findCommaInArgs, findUnescapedComma, splitTopLevelCommas, close, commaBehind, unescapedBehind, splitFrom}
 
-abbrev pub closed : List ℕ → Option (List ℕ) → Option (List ℕ)
-closed s none = none
-closed s (some behind) = some (inside s behind)
-
 unfoldable pub callAt : List ℕ → List ℕ → Option (List ℕ)
 unfolding close
-callAt name s = elim (starts name s) [ true ↦ closed (drop (length name) s) (findMatchingParen (drop (length name) s)) | false ↦ none ]
+callAt name s =
+    let rest = drop (length name) s in
+    elim (starts name s) [ true ↦ findMatchingParen rest andThen λ behind. some (inside rest behind) | false ↦ none ]
+
+-- the symbols of a call: its name, what stands inside, and the closer
+abbrev pub callLength : List ℕ → List ℕ → ℕ
+callLength name inner = suc (length name + length inner)
 
 abbrev pub rewritten : List ℕ → (List ℕ → List ℕ) → List ℕ → Option (List ℕ) → Turn
 rewritten name write s none = kept s
-rewritten name write s (some inner) = record { more = length name + length inner; fresh = write inner }
+rewritten name write s (some inner) = taken (callLength name inner) (write inner)
 
 abbrev pub calling : List ℕ → (List ℕ → List ℕ) → Rule
 calling name write before s = rewritten name write s (callAt name s)
@@ -51,64 +53,48 @@ latexCases inner = bytes "\\begin{cases} " ++ joined (bytes " \\\\ ") (nonblank 
 
 -- the text s with its call, which begins at `at` and holds `inner`, written as `fresh`
 abbrev pub spliced : List ℕ → List ℕ → List ℕ → List ℕ → List ℕ → List ℕ
-spliced s at name inner fresh = until s at ++ fresh ++ drop (length name + length inner + 1) at
+spliced s at name inner fresh = until s at ++ fresh ++ drop (callLength name inner) at
 
-abbrev pub casesAt : List ℕ → List ℕ → Option (List ℕ) → List ℕ
-casesAt s at none = s
-casesAt s at (some inner) = spliced s at (bytes "cases(") inner (latexCases inner)
-
-abbrev pub casesFrom : List ℕ → Option (List ℕ) → List ℕ
-casesFrom s none = s
-casesFrom s (some at) = casesAt s at (callAt (bytes "cases(") at)
+unfoldable pub casesOnce : List ℕ → Option (List ℕ)
+unfolding find callAt latexCases
+casesOnce s =
+    find (bytes "cases(") s andThen λ at.
+    callAt (bytes "cases(") at andThen λ inner.
+    some (spliced s at (bytes "cases(") inner (latexCases inner))
 
 unfoldable pub convertCases : List ℕ → List ℕ
-unfolding find callAt latexCases
-convertCases s = casesFrom s (find (bytes "cases(") s)
+unfolding casesOnce
+convertCases s = Option·getD (casesOnce s) s
 
 -- ---- convert_attach: the first occurrence again and again, until it can't be rewritten
--- what stands behind `b:`, up to the next comma that is not escaped
-abbrev pub bottom : List ℕ → Option (List ℕ) → List ℕ
-bottom after none = dropWhileEnd (is ")") after
-bottom after (some behind) = trim (inside after behind)
+-- What stands behind `b:` is the subscript up to the next comma that is not escaped. Without one it goes to the end, and the closing parentheses
+-- that end it are cut, its own too: `attach(x, b: f(y))` has the subscript `f(y`.
+abbrev pub bottom : List ℕ → List ℕ
+bottom after = elim (findUnescapedComma after) [ some behind ↦ trim (inside after behind) | none ↦ dropWhileEnd (is ")") after ]
 
-abbrev pub bottomFrom : List ℕ → List ℕ
-bottomFrom after = bottom after (findUnescapedComma after)
-
-abbrev pub subscript : Option (List ℕ) → List ℕ
-subscript none = []
-subscript (some at) = bottomFrom (trim (drop 2 at))
+abbrev pub subscript : List ℕ → List ℕ
+subscript rest = elim (find (bytes "b:") rest) [ some at ↦ bottom (trim (drop 2 at)) | none ↦ [] ]
 
 abbrev pub latexUnderset : List ℕ → List ℕ → List ℕ
 latexUnderset below base = bytes "\\underset{" ++ replace (bytes "\\,") (bytes "\\;") below ++ bytes "}{" ++ base ++ bytes "}"
 
--- the base stands before the first comma that is not escaped, and something after `b:`
-abbrev pub attached : List ℕ → List ℕ → Option (List ℕ)
-attached base below = elim (empty below) [ true ↦ none | false ↦ some (latexUnderset below base) ]
-
-abbrev pub attachOf : List ℕ → Option (List ℕ) → Option (List ℕ)
-attachOf inner none = none
-attachOf inner (some behind) = attached (trim (inside inner behind)) (subscript (find (bytes "b:") behind))
-
+-- the base stands before the first comma that is not escaped; with an empty subscript the call stays
 unfoldable pub latexAttach : List ℕ → Option (List ℕ)
 unfolding unescapedBehind find replace
-latexAttach inner = attachOf inner (findUnescapedComma inner)
-
-abbrev pub attachWritten : List ℕ → List ℕ → List ℕ → Option (List ℕ) → Option (List ℕ)
-attachWritten s at inner none = none
-attachWritten s at inner (some fresh) = some (spliced s at (bytes "attach(") inner fresh)
-
-abbrev pub attachAt : List ℕ → List ℕ → Option (List ℕ) → Option (List ℕ)
-attachAt s at none = none
-attachAt s at (some inner) = attachWritten s at inner (latexAttach inner)
-
-abbrev pub attachFrom : List ℕ → Option (List ℕ) → Option (List ℕ)
-attachFrom s none = none
-attachFrom s (some at) = attachAt s at (callAt (bytes "attach(") at)
+latexAttach inner =
+    findUnescapedComma inner andThen λ rest.
+    let base = trim (inside inner rest) in
+    let below = subscript rest in
+    cond (empty below) none (some (latexUnderset below base))
 
 -- one rewriting, if there is one
 unfoldable pub attachOnce : List ℕ → Option (List ℕ)
 unfolding find callAt latexAttach
-attachOnce s = attachFrom s (find (bytes "attach(") s)
+attachOnce s =
+    find (bytes "attach(") s andThen λ at.
+    callAt (bytes "attach(") at andThen λ inner.
+    latexAttach inner andThen λ fresh.
+    some (spliced s at (bytes "attach(") inner fresh)
 
 -- at most k rewritings
 unfoldable pub attachTimes : ℕ → List ℕ → List ℕ
@@ -116,7 +102,7 @@ unfolding attachOnce
 attachTimes zero s = s
 attachTimes (suc k) s = elim (attachOnce s) [ none ↦ s | some t ↦ attachTimes k t ]
 
--- each rewriting takes an `attach(` away and brings none, so as many as the text has symbols are enough
+-- each rewriting takes the parenthesis of its `attach(` away and brings none, so as many as the text has symbols are enough
 unfoldable pub convertAttach : List ℕ → List ℕ
 unfolding attachTimes
 convertAttach s = attachTimes (length s) s
@@ -129,20 +115,15 @@ abbrev pub convertBold : List ℕ → List ℕ
 convertBold s = convertCalls (bytes "bold(") (λ inner. bytes "\\mathbf{" ++ inner ++ bytes "}") s
 
 -- ---- convert_binom: with no comma at its top level a call is copied as ordinary text
-abbrev pub binomOf : List ℕ → List ℕ → Option (List ℕ) → Turn
-binomOf s inner none = kept s
-binomOf s inner (some behind) =
-    record {
-      more = length (bytes "binom(") + length inner;
-      fresh = bytes "\\binom{" ++ trim (inside inner behind) ++ bytes "}{" ++ trim behind ++ bytes "}";
-    }
-
-abbrev pub binomAt : List ℕ → Option (List ℕ) → Turn
-binomAt s none = kept s
-binomAt s (some inner) = binomOf s inner (findCommaInArgs inner)
+abbrev pub binomAt : List ℕ → Option Turn
+binomAt s =
+    callAt (bytes "binom(") s andThen λ inner.
+    findCommaInArgs inner andThen λ second.
+    let first = inside inner second in
+    some (taken (callLength (bytes "binom(") inner) (bytes "\\binom{" ++ trim first ++ bytes "}{" ++ trim second ++ bytes "}"))
 
 abbrev pub binom : Rule
-binom before s = binomAt s (callAt (bytes "binom(") s)
+binom before s = Option·getD (binomAt s) (kept s)
 
 unfoldable pub convertBinom : List ℕ → List ℕ
 unfolding sweep callAt commaBehind

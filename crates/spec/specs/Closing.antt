@@ -7,7 +7,7 @@ use mathlib.Core.Bool.{Bool, true, false, _&&_, _||_}
 use mathlib.Core.List.{List, [], _∷_}
 use mathlib.Core.Option.{Option, none, some}
 use Prim.Native.Nat.{ℕ, zero, suc}
-use Prim.Native.Char.{Char, code}
+use Prim.Native.Char.{code}
 use lib.Dec.{eqb}
 use Rattle.spec.specs.Symbols.{is, past}
 
@@ -32,7 +32,8 @@ module _ (o c : ℕ) where
         | neither ↦ close d s
       ]
 
-  -- d brackets are open before the text
+  -- Every closer in the text has an opener before it and every opener a closer behind it; d openers stand before the text. `strip_outer_parens` asks
+  -- this of what stands between the outer parentheses.
   unfoldable pub level : ℕ → List ℕ → Bool
   level zero [] = true
   level (suc d) [] = false

@@ -5,15 +5,16 @@ use Prim.Native.Nat.{ℕ}
 use lib.Dec.{eqb}
 use lib.ListN.{length, drop}
 use Rattle.spec.specs.Symbols.{letter, wordly, head, starts}
-use Rattle.spec.specs.Sweep.{Rule, kept, taking, sweep}
-use Rattle.spec.specs.Result.{Result, passed, refused, _then_}
+use Rattle.spec.specs.Sweep.{Rule, taken, kept, sweep}
+use Rattle.spec.specs.Result.{Result, passed, _then_}
 use Rattle.spec.specs.Held.{Held, holdTexts, inFull, heldStage, putBack}
 use Rattle.spec.specs.Table.{Definition}
 
--- the Rust's `\bNAME([^a-zA-Z]|$)`: after a word boundary, before a non-letter or the end
+-- The Rust's `\bNAME([^a-zA-Z]|$)`: after a word boundary, before a non-letter or the end. Its pattern takes the symbol behind the name along and
+-- puts it back. Here that symbol is only looked at: it is no letter and names begin with one, so no match that it begins is hidden by that.
 abbrev pub defined : Definition → Rule
 defined d before s =
-    cond (starts (d .name) s && (not (wordly before) && not (letter (head (drop (length (d .name)) s))))) (taking (d .name) (d .latex)) (kept s)
+    cond (starts (d .name) s && (not (wordly before) && not (letter (head (drop (length (d .name)) s))))) (taken (length (d .name)) (d .latex)) (kept s)
 
 unfoldable pub applyDefinition : Definition → List ℕ → List ℕ
 unfolding sweep

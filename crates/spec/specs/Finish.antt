@@ -2,15 +2,15 @@
 use mathlib.Core.Bool.{Bool, true, false, not, cond, _&&_, _||_}
 use mathlib.Core.List.{List, [], _∷_, _++_, reverse, reverseAux}
 use mathlib.Core.Option.{Option, none, some}
-use Prim.Native.Nat.{ℕ, zero, suc, pred, _+_, _-_}
+use Prim.Native.Nat.{ℕ, zero, suc, pred}
 use Prim.Native.Char.{code}
 use lib.Dec.{eqb}
-use lib.ListN.{length, take, drop}
-use Rattle.spec.specs.Symbols.{bytes, is, letter, alnum, scriptSign, head, past, same, empty, until, inside, dropWhile, trim, starts, ends, contains}
-use Rattle.spec.specs.Sweep.{Turn, Rule, kept, sweep, reached, replace}
-use Rattle.spec.specs.Closing.{close, findMatchingParen, matchingDelimiter}
-use Rattle.spec.specs.Calls.{callAt}
-use Rattle.spec.specs.Result.{Result, passed, refused, stage}
+use lib.ListN.{length, take}
+use Rattle.spec.specs.Symbols.{bytes, is, _andThen_, letter, alnum, scriptSign, head, past, same, empty, until, inside, dropWhile, trim, starts, ends, contains}
+use Rattle.spec.specs.Sweep.{Rule, sweep, reached, replace}
+use Rattle.spec.specs.Closing.{close, matchingDelimiter}
+use Rattle.spec.specs.Calls.{callAt, calling}
+use Rattle.spec.specs.Result.{Result, refused, stage}
 
 -- ---- escape_set_braces; the stack says of each open brace whether it groups, the last opened first
 abbrev pub groupsBehind : ℕ → Bool
@@ -59,24 +59,24 @@ delimiters x =
     ]
 
 -- with an empty inside, or another first symbol, only `lr(` and `)` are dropped
-abbrev pub sizedBy : List ℕ → Option Delimiters → List ℕ
-sizedBy inner none = inner
-sizedBy inner (some d) = d .left ++ take (pred (pred (length inner))) (past inner) ++ d .right
-
-abbrev pub lrTurn : List ℕ → Option (List ℕ) → Turn
-lrTurn s none = kept s
-lrTurn s (some inner) = record { more = length (bytes "lr(") + length inner; fresh = sizedBy inner (delimiters (head inner)) }
+abbrev pub latexLr : List ℕ → List ℕ
+latexLr inner =
+    elim (delimiters (head inner)) [
+      | some d ↦ d .left ++ take (pred (pred (length inner))) (past inner) ++ d .right
+      | none ↦ inner
+    ]
 
 abbrev pub lr : Rule
-lr before s = lrTurn s (callAt (bytes "lr(") s)
+lr = calling (bytes "lr(") latexLr
 
--- number 8: the inside is a delimiter alone, and the Rust panics
-abbrev pub bareInside : Option (List ℕ) → Bool
-bareInside none = false
-bareInside (some inner) = eqb (length inner) 1 && elim (delimiters (head inner)) [ none ↦ false | some d ↦ true ]
-
+-- Number 8: the inside is a delimiter alone, and the Rust panics. Only `[` and `|` can be: a `(` would take the closer of `lr(` for its own, and a `{`
+-- behind `lr(` has been escaped.
 abbrev pub bareDelimiter : List ℕ → Bool
-bareDelimiter s = bareInside (callAt (bytes "lr(") s)
+bareDelimiter s =
+    elim (callAt (bytes "lr(") s) [
+      | some inner ↦ eqb (length inner) 1 && elim (delimiters (head inner)) [ some d ↦ true | none ↦ false ]
+      | none ↦ false
+    ]
 
 unfoldable pub convertLr : List ℕ → Result (List ℕ)
 unfolding sweep reached callAt
@@ -103,40 +103,35 @@ pub record Group : Type 0 where
   pub content : List ℕ
   pub behind : List ℕ
 
-abbrev pub ifTall : ℕ → List ℕ → List ℕ → Option Group
-ifTall c m r = elim (tall m) [ true ↦ some (record { closer = c; content = m; behind = r }) | false ↦ none ]
-
-abbrev pub groupOf : ℕ → List ℕ → Option (List ℕ) → Option Group
-groupOf c s none = none
-groupOf c s (some r) = ifTall c (inside s r) r
-
-abbrev pub groupWith : ℕ → List ℕ → Option ℕ → Option Group
-groupWith x s none = none
-groupWith x s (some c) = groupOf c s (close x c 0 s)
-
 -- the tall group that x opens before s
 unfoldable pub tallGroup : List ℕ → ℕ → List ℕ → Option Group
 unfolding close
-tallGroup o x s = elim (alreadySized o) [ true ↦ none | false ↦ groupWith x s (closing x) ]
+tallGroup o x s =
+    elim (alreadySized o) [
+      | true ↦ none
+      | false ↦
+          closing x andThen λ c.
+          matchingDelimiter x c (x ∷ s) andThen λ r.
+          cond (tall (inside s r)) (some (record { closer = c; content = inside s r; behind = r })) none
+    ]
 
 abbrev pub leftRight : ℕ → ℕ → List ℕ → List ℕ
 leftRight x c m = bytes "\\left" ++ (x ∷ (m ++ (bytes "\\right" ++ c ∷ [])))
 
 -- one step; `go` sizes what is shorter
-abbrev pub groupStep : (List ℕ → List ℕ → List ℕ) → List ℕ → ℕ → List ℕ → Option Group → List ℕ
-groupStep go o x s none = x ∷ go (x ∷ o) s
-groupStep go o x s (some g) = let m : List ℕ = leftRight x (g .closer) (go [] (g .content)) in m ++ go (reverseAux m o) (g .behind)
-
-abbrev pub scriptStep : (List ℕ → List ℕ → List ℕ) → List ℕ → ℕ → List ℕ → Option (List ℕ) → List ℕ
-scriptStep go o x s none = groupStep go o x s (tallGroup o x s)
-scriptStep go o x s (some r) = until (x ∷ s) r ++ go (reverseAux (until (x ∷ s) r) o) r
-
 unfoldable pub sizeStep : (List ℕ → List ℕ → List ℕ) → List ℕ → List ℕ → List ℕ
 unfolding tallGroup close
 sizeStep go o [] = []
-sizeStep go o (x ∷ s) = scriptStep go o x s (scriptGroup x s)
+sizeStep go o (x ∷ s) =
+    elim (scriptGroup x s) [
+      | some r ↦ let group = until (x ∷ s) r in group ++ go (reverseAux group o) r
+      | none ↦ elim (tallGroup o x s) [
+        | some g ↦ let sized = leftRight x (g .closer) (go [] (g .content)) in sized ++ go (reverseAux sized o) (g .behind)
+        | none ↦ x ∷ go (x ∷ o) s
+      ]
+    ]
 
--- k bounds the steps, of which each takes at least one symbol
+-- k bounds the steps. Each takes at least one symbol, so a text's length is enough: `enough` in `crates/sizing/specs/Levels`
 unfoldable pub sizeWith : ℕ → List ℕ → List ℕ → List ℕ
 unfolding sizeStep
 sizeWith zero o s = s

@@ -9,8 +9,8 @@ use mathlib.Core.Option.{Option, none, some}
 use Prim.Native.Nat.{ℕ, zero, suc, _-_}
 use Prim.Native.Char.{code}
 use lib.Dec.{eqb, ltb}
-use lib.ListN.{length, take, drop}
-use Rattle.spec.specs.Symbols.{bytes, is, solidus, digit, alnum, scriptSign, head, past, any, same, until, trimStart, trim, starts, ends, find}
+use lib.ListN.{length, drop}
+use Rattle.spec.specs.Symbols.{bytes, is, solidus, digit, alnum, scriptSign, head, past, any, same, until, trimStart, trim, starts, ends}
 use Rattle.spec.specs.Closing.{Side, opens, closes, neither, side, close, level, orEnd}
 use Rattle.spec.specs.Result.{Result, passed, refused, mostSymbols}
 

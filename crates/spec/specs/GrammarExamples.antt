@@ -1,11 +1,11 @@
 -- Plain formulas with their LaTeX and atom counts, and what the rules leave out: two tables, checked by computation. Assumes nothing.
 use mathlib.Core.Path.{_≡_, refl}
-use mathlib.Core.Bool.{Bool, true, false}
+use mathlib.Core.Bool.{true, false}
 use mathlib.Core.List.{List, [], _∷_, map}
 use Prim.Native.Nat.{ℕ}
 use Prim.Native.Char.{code}
 use Rattle.spec.specs.Symbols.{bytes}
-use Rattle.spec.specs.Grammar.{Atom, variable, greek, number, Sum, product, plus, minus, Product, factor, beside, Factor, scripted, fraction, group, Operand, atom, enclosed, Script, bare, symbol, inner, greekName, proper, text, latex, atoms, depth}
+use Rattle.spec.specs.Grammar.{Atom, variable, greek, number, Sum, product, plus, minus, factor, beside, Factor, scripted, fraction, group, atom, enclosed, bare, symbol, inner, greekName, proper, text, latex, atoms}
 
 -- ---- parts
 abbrev a : Atom

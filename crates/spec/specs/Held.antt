@@ -6,14 +6,14 @@
 --     putBack                the Rust's put-back, or number 6
 -- The Rust has numbered placeholders instead of marks and puts the blocks back by number. Number 6 is what it does then, literally: the marks are
 -- written as its placeholders, and a block is lost where one of them is left. Assumes nothing.
-use mathlib.Core.Bool.{Bool, true, false, cond}
+use mathlib.Core.Bool.{true, false, cond}
 use mathlib.Core.List.{List, [], _∷_, _++_, reverse}
-use mathlib.Core.Option.{Option, none, some}
+use mathlib.Core.Option.{none, some}
 use Prim.Native.Nat.{ℕ, zero, suc, _+_}
 use lib.Dec.{eqb}
 use lib.ListN.{length, drop}
 use Rattle.spec.specs.Symbols.{bytes, is, textMark, romanMark, any, until, starts}
-use Rattle.spec.specs.Sweep.{sweep, replace}
+use Rattle.spec.specs.Sweep.{replace}
 use Rattle.spec.specs.Closing.{close, findMatchingBrace}
 use Rattle.spec.specs.Result.{Result, passed, refused, grown}
 

@@ -10,7 +10,8 @@ use Rattle.spec.specs.Symbols.{bytes, is, alnum, head, trimStart}
 abbrev pub appended : List ℕ → List ℕ → List ℕ
 appended o w = reverseAux w o
 
--- before an opening quote (`_` and `^` are neither of these, so the Rust's two further tests change nothing)
+-- Before an opening quote the Rust looks at what it has written, where a quoted text ends with `}`: so a closing brace counts. (`_` and `^` are
+-- neither of these, so its two further tests change nothing.)
 abbrev pub gapBefore : List ℕ → Bool
 gapBefore o = alnum (head o) || is "}" (head o)
 
@@ -19,7 +20,7 @@ openQuote o =
     let trimmed = trimStart o in
     appended (cond (gapBefore trimmed) (appended trimmed (bytes "\\;")) o) (bytes "\\text{")
 
--- behind a closing quote
+-- Behind a closing quote it looks at the formula, where a quoted text begins with a quote: so a quote counts, and a closing brace does not.
 abbrev pub gapBehind : List ℕ → Bool
 gapBehind s = alnum (head (trimStart s)) || is "\"" (head (trimStart s))
 

@@ -2,7 +2,7 @@
 --     stage     a stage that only number 5 can refuse
 --     _then_    one stage after another: the first trouble decides
 -- Assumes nothing.
-use mathlib.Core.Bool.{true, false, cond}
+use mathlib.Core.Bool.{cond}
 use mathlib.Core.List.{List}
 use Prim.Native.Nat.{ℕ}
 use lib.Dec.{ltb}

@@ -1,13 +1,13 @@
 -- convert_subscripts and convert_superscripts: three rewritings for `_`, then the same three for `^`. Assumes nothing.
-use mathlib.Core.Bool.{Bool, true, false, cond, _&&_, _||_}
-use mathlib.Core.List.{List, [], _∷_, _++_}
+use mathlib.Core.Bool.{true, false, cond, _&&_}
+use mathlib.Core.List.{List, _∷_, _++_}
 use mathlib.Core.Option.{Option, none, some}
-use Prim.Native.Nat.{ℕ, _+_, _-_}
+use Prim.Native.Nat.{ℕ, suc}
 use Prim.Native.Char.{code}
 use lib.Dec.{eqb, ltb}
 use lib.ListN.{length, drop}
 use Rattle.spec.specs.Symbols.{bytes, alnum, head, past, until, dropWhile, starts}
-use Rattle.spec.specs.Sweep.{Turn, Rule, kept, sweep}
+use Rattle.spec.specs.Sweep.{Turn, Rule, taken, kept, sweep}
 use Rattle.spec.specs.Closing.{close, findMatchingBrace}
 use Rattle.spec.specs.Result.{Result, _then_, stage}
 use Rattle.spec.specs.Words.{parenToBrace}
@@ -20,7 +20,7 @@ convertParenToBrace sign s = sweep (parenToBrace (sign ∷ bytes "(") (sign ∷ 
 -- a closed `\text{..}` block behind the sign gets braces
 abbrev pub wrappedText : ℕ → List ℕ → Option (List ℕ) → Turn
 wrappedText sign s none = kept s
-wrappedText sign s (some behind) = let block = until (past s) behind in record { more = length block; fresh = sign ∷ bytes "{" ++ block ++ bytes "}" }
+wrappedText sign s (some behind) = let block = until (past s) behind in taken (suc (length block)) (sign ∷ bytes "{" ++ block ++ bytes "}")
 
 abbrev pub wrapText : ℕ → Rule
 wrapText sign before s =
@@ -34,7 +34,7 @@ wrapTextSubscripts sign s = sweep (wrapText sign) 0 0 s
 abbrev pub wrapMultichar : ℕ → Rule
 wrapMultichar sign before s =
     let ident = until (past s) (dropWhile alnum (past s)) in
-    cond (eqb (head s) sign && ltb 1 (length ident)) (record { more = length ident; fresh = sign ∷ bytes "{" ++ ident ++ bytes "}" }) (kept s)
+    cond (eqb (head s) sign && ltb 1 (length ident)) (taken (suc (length ident)) (sign ∷ bytes "{" ++ ident ++ bytes "}")) (kept s)
 
 unfoldable pub wrapMulticharScripts : ℕ → List ℕ → List ℕ
 unfolding sweep

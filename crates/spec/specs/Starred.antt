@@ -2,7 +2,7 @@
 use mathlib.Core.Path.{_≡_, refl}
 use mathlib.Core.Bool.{true}
 use mathlib.Core.List.{List, [], _∷_, map}
-use Rattle.spec.specs.Result.{Result, passed}
+use Rattle.spec.specs.Result.{passed}
 use Rattle.spec.specs.Rows.{Row, row}
 use Rattle.spec.specs.Pipeline.{typstToLatex}
 

@@ -1,10 +1,10 @@
 -- A rewriting that goes through a text once, from the left. At each place it takes a symbol and perhaps more, and writes something.
---     Turn       what is done at a place
+--     Turn       what is done at a place. `taken` and `kept` make one
 --     sweep      the text that comes of it: the rule is told the symbol before the place (0 at the start) and the text from there on
 --     reached    a sweep comes to a place where a test holds
 --     replace    `str::replace`
 -- `skip` counts the symbols that a turn has taken besides its first, so that the recursion is on the list, with no fuel. Assumes nothing.
-use mathlib.Core.Bool.{Bool, true, false, cond, _||_}
+use mathlib.Core.Bool.{Bool, false, cond, _||_}
 use mathlib.Core.List.{List, [], _∷_, _++_}
 use Prim.Native.Nat.{ℕ, zero, suc, pred}
 use lib.ListN.{length, take}
@@ -15,12 +15,16 @@ pub record Turn : Type 0 where
   pub more : ℕ
   pub fresh : List ℕ
 
+-- n symbols are taken
+abbrev pub taken : ℕ → List ℕ → Turn
+taken n fresh = record { more = pred n; fresh = fresh }
+
 abbrev pub Rule : Type 0
 Rule = ℕ → List ℕ → Turn
 
 -- the symbol is copied
 abbrev pub kept : List ℕ → Turn
-kept s = record { more = 0; fresh = take 1 s }
+kept s = taken 1 (take 1 s)
 
 unfoldable pub sweep : Rule → ℕ → ℕ → List ℕ → List ℕ
 sweep rule before skip [] = []
@@ -32,12 +36,9 @@ reached test rule before skip [] = false
 reached test rule before zero (x ∷ s) = test (x ∷ s) || reached test rule x (rule before (x ∷ s) .more) s
 reached test rule before (suc skip) (x ∷ s) = reached test rule x skip s
 
--- ---- a pattern is taken as a whole
-abbrev pub taking : List ℕ → List ℕ → Turn
-taking pattern fresh = record { more = pred (length pattern); fresh = fresh }
-
+-- ---- str::replace
 abbrev pub replacing : List ℕ → List ℕ → Rule
-replacing pattern fresh before s = cond (starts pattern s) (taking pattern fresh) (kept s)
+replacing pattern fresh before s = cond (starts pattern s) (taken (length pattern) fresh) (kept s)
 
 unfoldable pub replace : List ℕ → List ℕ → List ℕ → List ℕ
 unfolding sweep

@@ -2,16 +2,17 @@
 --     bytes, is        literals: a text in quotes, and the test for one symbol
 --     solidus, ..      the marks: spare byte values, which no formula holds
 --     blank, ..        classes of symbols
+--     andThen          the Rust's `if let Some(..)`, one in another
 --     starts, find, .. tests and searches of `str`, on lists. A search gives the text from the place on, and no offset
 -- Assumes nothing.
 use mathlib.Core.Bool.{Bool, true, false, not, _&&_, _||_}
 use mathlib.Core.List.{List, [], _∷_, reverse}
 use mathlib.Core.Option.{Option, none, some}
-use Prim.Native.Nat.{ℕ, zero, suc, pred, _-_}
+use Prim.Native.Nat.{ℕ, pred, _-_}
 use Prim.Native.Char.{Char, code}
 use Prim.Native.String.{String, [] as []ˢ, _∷_ as _∷ˢ_}
 use lib.Dec.{eqb, leb}
-use lib.ListN.{length, take, drop}
+use lib.ListN.{length, take}
 
 abbrev pub bytes : String → List ℕ
 bytes []ˢ = []
@@ -61,6 +62,12 @@ foreign x = not (between (code " ") (code "~") x || (is "\t" x || is "\n" x))
 -- `_` or `^`
 abbrev pub scriptSign : ℕ → Bool
 scriptSign x = is "_" x || is "^" x
+
+-- ---- options
+infixr 10 _andThen_
+abbrev pub _andThen_ : {A B : Type 0} → Option A → (A → Option B) → Option B
+none andThen f = none
+some a andThen f = f a
 
 -- ---- lists
 -- 0 stands for no symbol: at the start of a text, and behind its end

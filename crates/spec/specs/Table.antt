@@ -9,7 +9,7 @@ use mathlib.Core.Option.{Option, none, some, Option·map}
 use Prim.Native.Nat.{ℕ, zero, suc, _+_, _*_, _/_, _%_}
 use lib.Dec.{leb, ltb}
 use lib.ListN.{length, take, drop}
-use Rattle.spec.specs.Symbols.{is, letter, alnum, foreign, head, all, any, same, empty}
+use Rattle.spec.specs.Symbols.{is, letter, alnum, foreign, head, all, any, same}
 
 pub record Definition : Type 0 where
   pub name : List ℕ
@@ -36,7 +36,8 @@ definitionOf n l rest = record { name = take n rest; latex = take l (drop n rest
 abbrev pub record-before : ℕ → ℕ → List ℕ → Option (List Definition) → Option (List Definition)
 record-before n l rest later = elim (ltb (length rest) (n + l)) [ true ↦ none | false ↦ Option·map (λ (ds : List Definition). definitionOf n l rest ∷ ds) later ]
 
--- none where a record goes past the end; a table of k bytes has fewer than k + 1 records
+-- None where a record goes past the end. k bounds the records; it never runs out, since each record has a header of two bytes and k is the
+-- table's length.
 unfoldable pub recordsWith : ℕ → List ℕ → Option (List Definition)
 recordsWith zero s = some []
 recordsWith (suc k) [] = some []

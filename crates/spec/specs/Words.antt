@@ -4,21 +4,21 @@
 use mathlib.Core.Bool.{Bool, true, false, not, cond, _&&_, _||_}
 use mathlib.Core.List.{List, [], _∷_, _++_}
 use mathlib.Core.Option.{Option, none, some}
-use Prim.Native.Nat.{ℕ, _+_, _-_, pred}
-use lib.Dec.{eqb}
+use Prim.Native.Nat.{ℕ, _+_}
 use lib.ListN.{length, drop}
 use Rattle.spec.specs.Symbols.{bytes, is, letter, alnum, wordly, head, any, inside, starts}
-use Rattle.spec.specs.Sweep.{Turn, Rule, kept, taking, sweep, replacing, replace}
+use Rattle.spec.specs.Sweep.{Turn, Rule, taken, kept, sweep, replacing, replace}
 use Rattle.spec.specs.Closing.{close, findMatchingParen}
-use Rattle.spec.specs.Result.{Result, passed, refused, _then_, stage}
+use Rattle.spec.specs.Calls.{callLength}
+use Rattle.spec.specs.Result.{Result, passed, _then_, stage}
 use Rattle.spec.specs.Held.{Held, holdBoth, inFull, heldStage, putBack}
-use Rattle.spec.specs.Rows.{Row, functionMappings, operatorReplacements, greekLetters, wordMappings, greekCapitals}
+use Rattle.spec.specs.Rows.{Row, greekLetters, wordMappings, greekCapitals}
 
 -- ---- convert_sqrt
 -- `s` stands behind the pattern
 abbrev pub braced : List ℕ → List ℕ → List ℕ → Option (List ℕ) → Turn
-braced pattern left s none = record { more = pred (length pattern) + length s; fresh = left ++ s }
-braced pattern left s (some behind) = record { more = length pattern + length (inside s behind); fresh = left ++ inside s behind ++ bytes "}" }
+braced pattern left s none = taken (length pattern + length s) (left ++ s)
+braced pattern left s (some behind) = taken (callLength pattern (inside s behind)) (left ++ inside s behind ++ bytes "}")
 
 abbrev pub parenToBrace : List ℕ → List ℕ → Rule
 parenToBrace pattern left before s =
@@ -40,19 +40,19 @@ abbrev pub embedded : List ℕ → ℕ → List ℕ → Bool
 embedded name before s = is "\\" before || (letter before || letter (head (drop (length name) s)))
 
 abbrev pub greek : Row → Rule
-greek r before s = cond (starts (r .typst) s) (taking (r .typst) (cond (embedded (r .typst) before s) (r .typst) (r .latex))) (kept s)
+greek r before s = cond (starts (r .typst) s) (taken (length (r .typst)) (cond (embedded (r .typst) before s) (r .typst) (r .latex))) (kept s)
 
 -- the Rust's `\bWORD`, spared behind a backslash and before a letter or digit
 abbrev pub word : Row → Rule
 word r before s =
     cond (starts (r .typst) s && not (wordly before))
-    (taking (r .typst) (cond (is "\\" before || alnum (head (drop (length (r .typst)) s))) (r .typst) (r .latex))) (kept s)
+    (taken (length (r .typst)) (cond (is "\\" before || alnum (head (drop (length (r .typst)) s))) (r .typst) (r .latex))) (kept s)
 
 -- the Rust's `\bNAME\b`, spared behind a backslash
 abbrev pub capital : Row → Rule
 capital r before s =
     cond (starts (r .typst) s && (not (wordly before) && not (wordly (head (drop (length (r .typst)) s)))))
-    (taking (r .typst) (cond (is "\\" before) (r .typst) (r .latex))) (kept s)
+    (taken (length (r .typst)) (cond (is "\\" before) (r .typst) (r .latex))) (kept s)
 
 -- a word with `(`, `|` or a point in it is literal
 abbrev pub literal : List ℕ → Bool

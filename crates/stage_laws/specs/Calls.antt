@@ -1,16 +1,17 @@
 -- The call rewritings bring no mark into a text. Assumes nothing.
 --     unmarked, Unmarked    a symbol that is no mark of a held block, and a text of such symbols
 use mathlib.Core.Path.{_≡_, refl}
-use mathlib.Core.Bool.{Bool, true, false, not, _&&_, _||_}
+use mathlib.Core.Bool.{Bool, true, false, not, cond, _&&_, _||_}
 use mathlib.Core.List.{List, [], _∷_, _++_, map}
-use mathlib.Core.Option.{Option, none, some}
-use Prim.Native.Nat.{ℕ, zero, suc, pred, _+_, _-_}
+use mathlib.Core.Option.{Option, none, some, Option·getD}
+use Prim.Native.Nat.{ℕ, zero, suc, pred, _-_}
 use lib.Dec.{eqb}
 use lib.ListN.{length, drop}
-use Rattle.spec.specs.Symbols.{bytes, is, blank, textMark, romanMark, empty, trim, trimQuotes, starts, find, inside}
+use Rattle.spec.specs.Symbols.{bytes, is, _andThen_, blank, dropWhileEnd, textMark, romanMark, empty, trim, trimQuotes, starts, find, inside}
+use Rattle.spec.specs.Sweep.{Turn, taken, kept}
 use Rattle.spec.specs.Closing.{Side, opens, closes, neither, anySide, pushed, splitFrom, findMatchingParen, findCommaInArgs, commaBehind, findUnescapedComma, unescapedBehind}
-use Rattle.spec.specs.Calls.{closed, callAt, rewritten, convertCalls, nonblank, joined, latexCases, spliced, casesAt, casesFrom, convertCases, bottom, subscript, latexUnderset, attachOf, latexAttach, attachWritten, attachAt, attachFrom, attachOnce, attachTimes, convertAttach, binomOf, binomAt, convertBinom}
-use Rattle.stage_laws.specs.Each.{Each, done, more, EachIf, nowhere, there, Parts, none-left, part, each-of, each-append, each-take, each-drop, each-drop-while, each-drop-while-end, each-find, each-sweep, each-replace}
+use Rattle.spec.specs.Calls.{callAt, callLength, rewritten, convertCalls, nonblank, joined, latexCases, spliced, casesOnce, convertCases, bottom, subscript, latexUnderset, latexAttach, attachOnce, attachTimes, convertAttach, convertBinom}
+use Rattle.stage_laws.specs.Each.{Each, done, more, EachIf, nowhere, there, Parts, none-left, part, each-of, each-then, each-get, each-append, each-take, each-drop, each-drop-while, each-drop-while-end, each-find, each-sweep, each-replace}
 
 abbrev pub unmarked : ℕ → Bool
 unmarked x = not (eqb x textMark || eqb x romanMark)
@@ -32,7 +33,7 @@ call-unmarked : (name : List ℕ) {s : List ℕ} → Unmarked s → EachIf unmar
 unfolding callAt
 call-unmarked name {s} a = go (starts name s) (findMatchingParen (drop (length name) s))
   where
-    go : (b : Bool) (o : Option (List ℕ)) → EachIf unmarked (elim b as (λ b. Option (List ℕ)) [ true ↦ closed (drop (length name) s) o | false ↦ none ])
+    go : (b : Bool) (o : Option (List ℕ)) → EachIf unmarked (elim b as (λ b. Option (List ℕ)) [ true ↦ o andThen λ behind. some (inside (drop (length name) s) behind) | false ↦ none ])
     go true none = nowhere
     go true (some behind) = there (inside-unmarked behind (each-drop (length name) a))
     go false o = nowhere
@@ -94,19 +95,16 @@ latex-cases-unmarked a =
     (parts-joined (each-of (bytes " \\\\ ") refl) (parts-nonblank (parts-trim (parts-split 0 0 a))))
 
 spliced-unmarked : {s at fresh : List ℕ} (name inner : List ℕ) → Unmarked s → Unmarked at → Unmarked fresh → Unmarked (spliced s at name inner fresh)
-spliced-unmarked {s} {at} name inner a b c = each-append (each-append (each-take (length s - length at) a) c) (each-drop (length name + length inner + 1) b)
+spliced-unmarked {s} {at} name inner a b c = each-append (each-append (each-take (length s - length at) a) c) (each-drop (callLength name inner) b)
 
 pub cases-unmarked : {s : List ℕ} → Each unmarked s → Each unmarked (convertCases s)
-unfolding convertCases
-cases-unmarked {s} a = from (find (bytes "cases(") s) (each-find (bytes "cases(") a)
-  where
-    within : (at : List ℕ) → Unmarked at → (o : Option (List ℕ)) → EachIf unmarked o → Unmarked (casesAt s at o)
-    within at b none i = a
-    within at b (some inner) (there i) = spliced-unmarked (bytes "cases(") inner a b (latex-cases-unmarked i)
-
-    from : (o : Option (List ℕ)) → EachIf unmarked o → Unmarked (casesFrom s o)
-    from none b = a
-    from (some at) (there b) = within at b (callAt (bytes "cases(") at) (call-unmarked (bytes "cases(") b)
+unfolding convertCases casesOnce
+cases-unmarked {s} a =
+    each-get
+    (each-then _ (each-find (bytes "cases(") a) (λ at b.
+    each-then _ (call-unmarked (bytes "cases(") b) (λ inner c.
+    there (spliced-unmarked (bytes "cases(") inner a b (latex-cases-unmarked c)))))
+    a
 
 -- ---- attach
 unescaped-unmarked : {s : List ℕ} (before : ℕ) → Unmarked s → EachIf unmarked (unescapedBehind before s)
@@ -123,13 +121,19 @@ unescaped-unmarked before (more {x} {s} e a) = go (is "," x) (is "\\" before) (u
     go true false later = there a
     go false c later = later
 
-bottom-unmarked : {after : List ℕ} → Unmarked after → (o : Option (List ℕ)) → Unmarked (bottom after o)
-bottom-unmarked a none = each-drop-while-end (is ")") a
-bottom-unmarked a (some behind) = trim-unmarked (inside-unmarked behind a)
+bottom-unmarked : {after : List ℕ} → Unmarked after → Unmarked (bottom after)
+bottom-unmarked {after} a = go (findUnescapedComma after)
+  where
+    go : (o : Option (List ℕ)) → Unmarked (elim o as (λ o. List ℕ) [ some behind ↦ trim (inside after behind) | none ↦ dropWhileEnd (is ")") after ])
+    go none = each-drop-while-end (is ")") a
+    go (some behind) = trim-unmarked (inside-unmarked behind a)
 
-subscript-unmarked : (o : Option (List ℕ)) → EachIf unmarked o → Unmarked (subscript o)
-subscript-unmarked none i = done
-subscript-unmarked (some at) (there a) = let b = trim-unmarked (each-drop 2 a) in bottom-unmarked b (findUnescapedComma (trim (drop 2 at)))
+subscript-unmarked : {rest : List ℕ} → Unmarked rest → Unmarked (subscript rest)
+subscript-unmarked {rest} a = go (find (bytes "b:") rest) (each-find (bytes "b:") a)
+  where
+    go : (o : Option (List ℕ)) → EachIf unmarked o → Unmarked (elim o as (λ o. List ℕ) [ some at ↦ bottom (trim (drop 2 at)) | none ↦ [] ])
+    go none i = done
+    go (some at) (there b) = bottom-unmarked (trim-unmarked (each-drop 2 b))
 
 underset-unmarked : {below base : List ℕ} → Unmarked below → Unmarked base → Unmarked (latexUnderset below base)
 underset-unmarked a b =
@@ -141,33 +145,20 @@ underset-unmarked a b =
 
 latex-attach-unmarked : {inner : List ℕ} → Unmarked inner → EachIf unmarked (latexAttach inner)
 unfolding latexAttach
-latex-attach-unmarked {inner} a = go (findUnescapedComma inner) (unescaped-unmarked 0 a)
+latex-attach-unmarked {inner} a =
+    each-then _ (unescaped-unmarked 0 a) (λ rest b. some-below (empty (subscript rest)) (trim-unmarked (inside-unmarked rest a)) (subscript-unmarked b))
   where
-    some-below : (b : Bool) {base below : List ℕ} → Unmarked base → Unmarked below → EachIf unmarked (elim b as (λ b. Option (List ℕ)) [ true ↦ none | false ↦ some (latexUnderset below base) ])
+    some-below : (b : Bool) {base below : List ℕ} → Unmarked base → Unmarked below → EachIf unmarked (cond b none (some (latexUnderset below base)))
     some-below true c d = nowhere
     some-below false c d = there (underset-unmarked d c)
 
-    go : (o : Option (List ℕ)) → EachIf unmarked o → EachIf unmarked (attachOf inner o)
-    go none i = nowhere
-    go (some behind) (there b) =
-        some-below (empty (subscript (find (bytes "b:") behind))) (trim-unmarked (inside-unmarked behind a))
-        (subscript-unmarked (find (bytes "b:") behind) (each-find (bytes "b:") b))
-
 attach-once-unmarked : {s : List ℕ} → Unmarked s → EachIf unmarked (attachOnce s)
 unfolding attachOnce
-attach-once-unmarked {s} a = from (find (bytes "attach(") s) (each-find (bytes "attach(") a)
-  where
-    written : (at inner : List ℕ) → Unmarked at → (o : Option (List ℕ)) → EachIf unmarked o → EachIf unmarked (attachWritten s at inner o)
-    written at inner b none i = nowhere
-    written at inner b (some fresh) (there i) = there (spliced-unmarked (bytes "attach(") inner a b i)
-
-    within : (at : List ℕ) → Unmarked at → (o : Option (List ℕ)) → EachIf unmarked o → EachIf unmarked (attachAt s at o)
-    within at b none i = nowhere
-    within at b (some inner) (there i) = written at inner b (latexAttach inner) (latex-attach-unmarked i)
-
-    from : (o : Option (List ℕ)) → EachIf unmarked o → EachIf unmarked (attachFrom s o)
-    from none b = nowhere
-    from (some at) (there b) = within at b (callAt (bytes "attach(") at) (call-unmarked (bytes "attach(") b)
+attach-once-unmarked {s} a =
+    each-then _ (each-find (bytes "attach(") a) (λ at b.
+    each-then _ (call-unmarked (bytes "attach(") b) (λ inner c.
+    each-then _ (latex-attach-unmarked c) (λ fresh d.
+    there (spliced-unmarked (bytes "attach(") inner a b d))))
 
 attach-times-unmarked : (k : ℕ) {s : List ℕ} → Unmarked s → Unmarked (attachTimes k s)
 unfolding attachTimes
@@ -203,7 +194,10 @@ pub binom-unmarked : {s : List ℕ} → Each unmarked s → Each unmarked (conve
 unfolding convertBinom
 binom-unmarked a = each-sweep (record { writes = λ before s b. go s b (callAt (bytes "binom(") s) (call-unmarked (bytes "binom(") b) }) 0 0 a
   where
-    within : (s inner : List ℕ) → Unmarked s → Unmarked inner → (o : Option (List ℕ)) → EachIf unmarked o → Unmarked (binomOf s inner o .fresh)
+    binomOf : List ℕ → List ℕ → Option Turn
+    binomOf inner second = some (taken (callLength (bytes "binom(") inner) (bytes "\\binom{" ++ trim (inside inner second) ++ bytes "}{" ++ trim second ++ bytes "}"))
+
+    within : (s inner : List ℕ) → Unmarked s → Unmarked inner → (o : Option (List ℕ)) → EachIf unmarked o → Unmarked (Option·getD (o andThen binomOf inner) (kept s) .fresh)
     within s inner b c none i = each-take 1 b
     within s inner b c (some behind) (there i) =
         each-append
@@ -212,6 +206,6 @@ binom-unmarked a = each-sweep (record { writes = λ before s b. go s b (callAt (
         (trim-unmarked i))
         (each-of (bytes "}") refl)
 
-    go : (s : List ℕ) → Unmarked s → (o : Option (List ℕ)) → EachIf unmarked o → Unmarked (binomAt s o .fresh)
+    go : (s : List ℕ) → Unmarked s → (o : Option (List ℕ)) → EachIf unmarked o → Unmarked (Option·getD (o andThen λ inner. findCommaInArgs inner andThen binomOf inner) (kept s) .fresh)
     go s b none i = each-take 1 b
     go s b (some inner) (there i) = within s inner b i (findCommaInArgs inner) (comma-unmarked 0 0 i)

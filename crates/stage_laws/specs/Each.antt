@@ -7,12 +7,12 @@
 use mathlib.Core.Path.{_≡_}
 use mathlib.Core.Bool.{Bool, true, false, cond}
 use mathlib.Core.List.{List, [], _∷_, _++_, reverse, reverseAux}
-use mathlib.Core.Option.{Option, none, some}
+use mathlib.Core.Option.{Option, none, some, Option·getD}
 use Prim.Native.Nat.{ℕ, zero, suc}
-use lib.ListN.{take, drop}
+use lib.ListN.{length, take, drop}
 use Rattle.spec.specs.Laws.Booleans.{and-left, and-right}
-use Rattle.spec.specs.Symbols.{all, starts, dropWhile, dropWhileEnd, find}
-use Rattle.spec.specs.Sweep.{Rule, kept, taking, sweep, replacing, replace}
+use Rattle.spec.specs.Symbols.{_andThen_, all, starts, dropWhile, dropWhileEnd, find}
+use Rattle.spec.specs.Sweep.{Rule, kept, taken, sweep, replacing, replace}
 
 pub data Each (f : ℕ → Bool) : List ℕ → Type 0 where
   done : Each f []
@@ -72,6 +72,14 @@ module _ {f : ℕ → Bool} where
   each-either false a b = b
 
   -- ---- searches: what stands from a place on, if there is one
+  pub each-then : {o : Option (List ℕ)} (g : List ℕ → Option (List ℕ)) → EachIf f o → ((t : List ℕ) → Each f t → EachIf f (g t)) → EachIf f (o andThen g)
+  each-then g nowhere next = nowhere
+  each-then g (there {s} a) next = next s a
+
+  pub each-get : {o : Option (List ℕ)} {s : List ℕ} → EachIf f o → Each f s → Each f (Option·getD o s)
+  each-get nowhere b = b
+  each-get (there a) b = a
+
   pub each-find : (w : List ℕ) {s : List ℕ} → Each f s → EachIf f (find w s)
   unfolding find
   each-find w done = nowhere
@@ -96,7 +104,7 @@ module _ {f : ℕ → Bool} where
   pub keeps-replacing : (pattern : List ℕ) {fresh : List ℕ} → Each f fresh → Keeps f (replacing pattern fresh)
   keeps-replacing pattern {fresh} a = record { writes = λ before s b. go (starts pattern s) b }
     where
-      go : (t : Bool) {s : List ℕ} → Each f s → Each f (cond t (taking pattern fresh) (kept s) .fresh)
+      go : (t : Bool) {s : List ℕ} → Each f s → Each f (cond t (taken (length pattern) fresh) (kept s) .fresh)
       go true b = a
       go false b = each-take 1 b
 

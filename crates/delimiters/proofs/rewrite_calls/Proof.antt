@@ -75,7 +75,7 @@ fits :
 fits c =
     let l = c .before .before .before .before .before .before .before in
     let s = l .before .before .before .before .before in
-    call-fits _ (s .pre .0) (l .loop .inv .2) (omega arith) (c .before .before .before .call-at .ensures) (c .before .k .given .1)
+    call-fits (s .pre .0) (l .loop .inv .2) (omega arith) (c .before .before .before .call-at .ensures) (c .before .k .given .1)
 
 add-start : tie.Need-add-start Inv-loop μ-loop
 add-start c = let f = fits c in omega arith

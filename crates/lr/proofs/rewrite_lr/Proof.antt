@@ -1,16 +1,16 @@
 -- `lr::rewrite_lr` meets its contract. The loop's invariant is that of a sweep, at place i, and no bare delimiter has been reached. Assumes nothing.
-use Rattle.lr.specs.Lr.{lrCalling, sizedInside, sweep-lr, reached-lr, no-call, bare-here, sized-here, sized-written, sized-few}
+use Rattle.lr.specs.Lr.{no-call, bare-here, sized-here, sized-written, sized-few}
 use Rattle.lr.specs.Reached.{comes, comes-first, comes-end}
 use Rattle.delimiters.specs.Delimiters.{call-fits, called-here, copied-here}
-use Rattle.spec.specs.Finish.{bareDelimiter}
+use Rattle.spec.specs.Finish.{latexLr, lr, bareDelimiter}
 use Rattle.spec.specs.Sweep.{reached}
 use Rattle.symbols.specs.Parts.{part, length-part}
 use Rattle.text.specs.Sweep.{Sweeping, sweeping-none, sweeping-all, symbols-apart, turn-room}
-use Rattle.text.specs.Writer.{Appended, appended-long}
+use Rattle.text.specs.Writer.{appended-long}
 use lib.Dec.{eqb}
 use lib.ListN.{length, drop, length-take, length-drop}
 use mathlib.Core.Bool.{_&&_}
-use mathlib.Core.Path.{_≡_, refl, sym, ap, _∙_, subst}
+use mathlib.Core.Path.{_≡_, refl, sym, ap, _∙_}
 use Prim.Native.Nat.{_+_, _-_, _≤_}
 use native.Mathlib.Omega.{arith}
 use borrow.Author.Needs.{needs}
@@ -19,8 +19,8 @@ use Rattle.lr.proofs.rewrite_lr.Tie as tie
 
 abbrev Inv-loop : tie.InvT-loop
 Inv-loop work₀ from n to end count₀ i₀ work count i =
-    (end ≡ from + n) × (length work ≡ length work₀) × Sweeping lrCalling work₀ work from n to 8192 0 count i
-    × (reached bareDelimiter lrCalling 0 0 (part from n work₀) ≡ comes bareDelimiter lrCalling (part from n work₀) i)
+    (end ≡ from + n) × (length work ≡ length work₀) × Sweeping lr work₀ work from n to 8192 0 count i
+    × (reached bareDelimiter lr 0 0 (part from n work₀) ≡ comes bareDelimiter lr (part from n work₀) i)
 
 abbrev μ-loop : tie.MeasureT-loop
 μ-loop work₀ from n to end count₀ i₀ work count i = n - i
@@ -31,7 +31,7 @@ add-end c = omega arith
 loop-holds : tie.Need-loop-holds Inv-loop μ-loop
 loop-holds c =
     let a = c .before .args in
-    (refl, refl, sweeping-none _ _ _ _ _ _ _, sym (comes-first bareDelimiter lrCalling (part (a .from) (a .n) (a .work .now))))
+    (refl, refl, sweeping-none _ _ _ _ _ _ _, sym (comes-first bareDelimiter lr (part (a .from) (a .n) (a .work .now))))
 
 add-at : tie.Need-add-at Inv-loop μ-loop
 add-at c = omega arith
@@ -76,13 +76,13 @@ loop-again c =
     let told = c .before .before .before .before .before .enum-told .given .1 in (
       refl,
       omega (arith, appended-long (c .before .before .put .ensures)),
-      copied-here sizedInside (s .pre) (l .loop .inv .2) (c .before .before .before .before .before .before .before .before .before .before .loop-test .taken) called told (c .before .before .put .ensures),
+      copied-here latexLr (s .pre) (l .loop .inv .2) (c .before .before .before .before .before .before .before .before .before .before .loop-test .taken) called told (c .before .before .put .ensures),
       l .loop .inv .3 ∙ no-call (s .pre) (l .loop .inv .2) (c .before .before .before .before .before .before .before .before .before .before .loop-test .taken) called told,
     )
 
 -- the call that has been found ends within the text
 fits : (c : tie.After-known-told Inv-loop μ-loop) → (let l = c .before .before .before .before .before .before .before in l .loop .i + 3 + c .before .k .given .0 .0 + 1 ≤ l .before .before .args .n)
-fits c = let l = c .before .before .before .before .before .before .before in call-fits sizedInside (l .before .before .pre) (l .loop .inv .2) (c .before .before .before .before .before .before .loop-test .taken) (c .before .before .before .lr-at .ensures) (c .before .k .given .1)
+fits c = let l = c .before .before .before .before .before .before .before in call-fits (l .before .before .pre) (l .loop .inv .2) (c .before .before .before .before .before .before .loop-test .taken) (c .before .before .before .lr-at .ensures) (c .before .k .given .1)
 
 add-open : tie.Need-add-open Inv-loop μ-loop
 add-open c = let f = fits c in omega arith
@@ -117,7 +117,7 @@ returns c =
     let s = l .before .before in
     let bare = ap (λ b. eqb (c .before .before .before .before .before .before .k .given .0 .0) 1 && b) (sym (c .before .is-delimiter .ensures)) ∙ c .if1 .taken in
     record {
-      reaches = sym (reached-lr (part (s .args .from) (s .args .n) (s .args .work .now))) ∙ l .loop .inv .3
+      reaches = l .loop .inv .3
           ∙ bare-here (s .pre) (l .loop .inv .2) (c .before .before .before .before .before .before .before .before .before .before .before .loop-test .taken) (c .before .before .before .before .before .before .before .before .lr-at .ensures) (c .before .before .before .before .before .before .k .given .1) (c .before .before .symbol .ensures) bare;
       out = l .loop .inv .2 .out;
       count = l .loop .count;
@@ -157,7 +157,7 @@ loop-again-2 c =
     let other = ap (λ b. eqb k 1 && b) (sym (c .before .before .before .before .before .is-delimiter .ensures)) ∙ c .before .before .before .before .if1 .left in (
       refl,
       omega (arith, appended-long (c .before .before .put-sized .ensures)),
-      called-here sizedInside (s .pre) (l .loop .inv .2) (c .before .before .before .before .before .before .before .before .before .before .before .before .before .before .before .loop-test .taken) called at
+      called-here latexLr (s .pre) (l .loop .inv .2) (c .before .before .before .before .before .before .before .before .before .before .before .before .before .before .before .loop-test .taken) called at
           (sized-written (s .pre) (l .loop .inv .2) (c .before .before .before .before .before .before .before .before .before .before .before .before .before .before .before .loop-test .taken) called at (c .before .before .before .before .before .before .symbol .ensures))
           (sized-few inner (c .before .before .before .before .before .before .symbol .result) k (omega (arith, few)))
           (c .before .before .put-sized .ensures),
@@ -176,8 +176,8 @@ returns-2 c =
     let text = part (a .from) (a .n) (a .work .now) in
     let g = length-part (a .from) (a .n) (a .work .now) (p .source) in
     record {
-      reaches = sym (reached-lr text) ∙ l .loop .inv .3 ∙ comes-end bareDelimiter lrCalling text (l .loop .i) (omega arith);
-      appended = subst (Appended (a .work .now) (l .loop .work) (a .to) 8192 0 (l .loop .count)) (sweep-lr text) (sweeping-all p (l .loop .inv .2) (omega arith));
+      reaches = l .loop .inv .3 ∙ comes-end bareDelimiter lr text (l .loop .i) (omega arith);
+      appended = sweeping-all p (l .loop .inv .2) (omega arith);
     }
 
 pub rewrite-lr-spec : {M : Type 1} → statement M

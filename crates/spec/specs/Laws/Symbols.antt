@@ -1,16 +1,16 @@
 -- Laws of texts: a place and what lies ahead of it, how a text begins, where a pattern is found. Assumes nothing.
-use mathlib.Core.Path.{_≡_, refl, sym, ap, _∙_}
+use mathlib.Core.Path.{_≡_, refl, sym, ap, ap₂, _∙_}
 use mathlib.Core.Bool.{Bool, true, false, _&&_, and-true, and-false, false≢true}
-use mathlib.Core.List.{List, [], _∷_}
+use mathlib.Core.List.{List, [], _∷_, _++_}
 use mathlib.Core.Option.{Option, none, some}
 use Prim.Native.Nat.{ℕ, zero, suc, _+_, _-_, _≤_, _<_}
 use native.Mathlib.Numerals.{add-one}
 use native.Mathlib.Omega.{arith}
 use lib.Dec.{eqb}
-use lib.ListN.{length, getD, drop, drop-of-length-le}
+use lib.ListN.{length, getD, take, drop, drop-of-length-le}
 use lib.Seq.{drop-cons}
-use borrow.Author.Tests.{eq-eqb, ne-eqb}
-use Rattle.spec.specs.Symbols.{head, past, all, any, starts, find}
+use borrow.Author.Tests.{eqb-true, eq-eqb, ne-eqb}
+use Rattle.spec.specs.Symbols.{head, past, all, any, until, starts, find}
 
 -- ---- places
 pub drop-step : (s : List ℕ) (i : ℕ) → i < length s → drop i s ≡ getD s i 0 ∷ drop (i + 1) s
@@ -61,6 +61,16 @@ starts-long (k ∷ w) (x ∷ s) e = go (starts w s) refl (starts-long w s) e
     go true b longer e = let l = longer b in omega arith
     go false b longer e = absurd (false≢true e)
 
+pub starts-take : (w s : List ℕ) → starts w s ≡ true → take (length w) s ≡ w
+starts-take [] s e = refl
+starts-take (k ∷ w) [] e = absurd (false≢true e)
+starts-take (k ∷ w) (x ∷ s) e = go (starts w s) (eqb x k) refl refl (starts-take w s) e
+  where
+    go : (a b : Bool) → starts w s ≡ a → eqb x k ≡ b → (starts w s ≡ true → take (length w) s ≡ w) → a && b ≡ true → x ∷ take (length w) s ≡ k ∷ w
+    go true true f g rest e = ap₂ (λ y l. y ∷ l) (eqb-true x k g) (rest f)
+    go true false f g rest e = absurd (false≢true e)
+    go false b f g rest e = absurd (false≢true e)
+
 pub starts-short : (pattern s : List ℕ) → length s < length pattern → starts pattern s ≡ false
 starts-short pattern s h = go (starts pattern s) refl
   where
@@ -103,3 +113,26 @@ find-drop w s i h e =
 pub find-end : (w s : List ℕ) (i : ℕ) → length s ≤ i → find w (drop i s) ≡ none
 unfolding find
 find-end w s i h = ap (find w) (drop-of-length-le s h)
+
+-- ---- ends of a text
+pub record Tail (s r : List ℕ) : Type 0 where
+  pub shorter : length r ≤ length s
+  pub joined : until s r ++ r ≡ s
+
+pub tail-here : (s : List ℕ) → Tail s s
+tail-here s = let n : length s - length s ≡ 0 = omega arith in record { shorter = omega arith; joined = ap (λ k. take k s ++ s) n }
+
+pub tail-more : (x : ℕ) {s r : List ℕ} → Tail s r → Tail (x ∷ s) r
+tail-more x {s} {r} t =
+    let h = t .shorter in
+    let n : suc (length s) - length r ≡ suc (length s - length r) = omega arith in
+    record { shorter = omega arith; joined = ap (λ k. take k (x ∷ s) ++ r) n ∙ ap (λ l. x ∷ l) (t .joined) }
+
+pub find-tail : (w s at : List ℕ) → find w s ≡ some at → Tail s at
+unfolding find
+find-tail w [] at e = let z : _≡_ {A = ℕ} 0 1 = cc in absurd (omega arith)
+find-tail w (x ∷ s) at e = go (starts w (x ∷ s)) e (find-tail w s at)
+  where
+    go : (t : Bool) → _≡_ {A = Option (List ℕ)} (elim t [ true ↦ some (x ∷ s) | false ↦ find w s ]) (some at) → (find w s ≡ some at → Tail s at) → Tail (x ∷ s) at
+    go true e later = let same : x ∷ s ≡ at = cc in rw (← same) (tail-here (x ∷ s))
+    go false e later = tail-more x (later e)
