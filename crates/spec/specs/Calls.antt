@@ -102,7 +102,7 @@ unfolding attachOnce
 attachTimes zero s = s
 attachTimes (suc k) s = elim (attachOnce s) [ none ↦ s | some t ↦ attachTimes k t ]
 
--- each rewriting takes the parenthesis of its `attach(` away and brings none, so as many as the text has symbols are enough
+-- each rewriting takes the parenthesis of its `attach(` away and brings none, so as many as the text has symbols are enough: `attach-ends` in `Laws/Attach`
 unfoldable pub convertAttach : List ℕ → List ℕ
 unfolding attachTimes
 convertAttach s = attachTimes (length s) s

@@ -2,4 +2,5 @@
 pub mod Booleans
 pub mod Symbols
 pub mod Sweep
+pub mod Attach
 pub mod Table
