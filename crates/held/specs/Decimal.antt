@@ -1,5 +1,4 @@
 -- The digits that `counted` gives: a placeholder's number is written in digits alone, and two numbers have two texts. Assumes nothing.
---     decimal     a number's digits, the first digit first
 --     Digits      all symbols of a text are digits
 --     worth       what digits are worth, the last digit first
 use mathlib.Core.Path.{_≡_, refl, sym, ap, _∙_}
@@ -11,9 +10,7 @@ use native.Mathlib.Omega.{arith}
 use borrow.Author.Tests.{eqb-true, eqb-false}
 use Rattle.spec.specs.Symbols.{is}
 use Rattle.spec.specs.Held.{up, counted}
-
-abbrev pub decimal : ℕ → List ℕ
-decimal n = reverse (counted n)
+pub use Rattle.spec.specs.Held.{decimal}
 
 -- a digit as a number: from the code of `0` to that of `9`
 pub record Digit (d : ℕ) : Type 0 where

@@ -87,10 +87,14 @@ unfoldable pub counted : ℕ → List ℕ
 counted zero = bytes "0"
 counted (suc n) = up (counted n)
 
+-- the first digit first
+abbrev pub decimal : ℕ → List ℕ
+decimal n = reverse (counted n)
+
 -- mark, decimal number, mark: the Rust's mark is U+FFFE in definitions and U+FFFD in words, here it is one symbol for both
 unfoldable pub placeholder : ℕ → List ℕ
 unfolding up counted
-placeholder k = textMark ∷ reverse (counted k) ++ (textMark ∷ [])
+placeholder k = textMark ∷ decimal k ++ (textMark ∷ [])
 
 unfoldable pub marks : List ℕ → ℕ
 marks [] = 0

@@ -13,6 +13,7 @@ pub mod Scripts
 pub mod Fractions
 pub mod Finish
 pub mod Pipeline
+pub mod Program
 pub mod Grammar
 pub mod GrammarExamples
 pub mod Starred

@@ -1,0 +1,63 @@
+-- The program `formula`: from all bytes of standard input and of the table to the text on standard output. Assumes nothing.
+--     firstLine, formulaOf    the two parts of the input
+--     printed                 the text on standard output, for an order of the table's records
+--     Run                     the text and its length, in a lent buffer
+--     Prints                  the same from what has been read into buffers, whatever lies behind the place where reading stopped
+use mathlib.Core.Path.{_≡_}
+use mathlib.Core.Bool.{Bool, true, false, cond}
+use mathlib.Core.List.{List, [], _∷_, _++_}
+use mathlib.Core.Option.{Option, none, some}
+use Prim.Native.Nat.{ℕ}
+use lib.ListN.{length, take, drop, replicate}
+use Rattle.spec.specs.Symbols.{bytes, is}
+use Rattle.spec.specs.Result.{Result, passed, refused}
+use Rattle.spec.specs.Table.{Definition, Order}
+use Rattle.spec.specs.Held.{decimal}
+use Rattle.spec.specs.Pipeline.{leastWork, definitionsOr, converted}
+
+-- ---- the input: a line `d` (display on) or `i` (off), then the formula to the end
+abbrev pub displayOf : ℕ → Option Bool
+displayOf b = cond (is "d" b) (some true) (cond (is "i" b) (some false) none)
+
+-- the display; none where the line is neither
+abbrev pub firstLine : List ℕ → Option Bool
+firstLine [] = none
+firstLine (b ∷ []) = displayOf b
+firstLine (b ∷ c ∷ formula) = cond (is "\n" c) (displayOf b) none
+
+-- with no newline after `d` or `i` it is empty
+abbrev pub formulaOf : List ℕ → List ℕ
+formulaOf input = drop 2 input
+
+-- ---- the text
+abbrev pub mostOutput : ℕ
+mostOutput = 8192
+
+abbrev pub reported : Result (List ℕ) → List ℕ
+reported (passed latex) = bytes "ok " ++ decimal (length latex) ++ bytes "\n" ++ latex ++ bytes "\n"
+reported (refused number) = bytes "refused " ++ decimal number ++ bytes "\n"
+
+abbrev pub printed : List Definition → List ℕ → List ℕ → List ℕ
+printed order input table =
+    elim (firstLine input) [
+      | none ↦ bytes "first line: d or i\n"
+      | some display ↦ reported (converted order (formulaOf input) table display (replicate leastWork 0) (replicate mostOutput 0))
+    ]
+
+-- ---- a run of the program
+-- the text comes to stand at the start of the buffer, whose other bytes are as they were; among names of equal length some order is taken
+pub record Run (input table buffer : List ℕ) (count : ℕ) (buffer′ : List ℕ) : Type 0 where
+  pub order : List Definition
+  pub ordered : Order (definitionsOr table) order
+  pub answers : count ≡ length (printed order input table)
+  pub writes : buffer′ ≡ printed order input table ++ drop (length (printed order input table)) buffer
+
+-- n bytes have been read into a buffer: all that there are, or as many as the buffer holds
+abbrev pub Read : List ℕ → ℕ → List ℕ → Type 0
+Read buffer n whole = take n buffer ≡ take (length buffer) whole
+
+-- of the table nothing has to be read where the first line is neither
+abbrev pub Prints : List ℕ → ℕ → List ℕ → ℕ → List ℕ → ℕ → List ℕ → Type 0
+Prints inputRead n tableRead m buffer count buffer′ =
+    (input table : List ℕ) → Read inputRead n input → ((display : Bool) → firstLine input ≡ some display → Read tableRead m table)
+    → Run input table buffer count buffer′
