@@ -1,18 +1,13 @@
 // Reading into a buffer: as many bytes as there are, or as fit.
-ghost use Prim.Native.Nat.{_≤_};
-ghost use lib.ListN.{length};
-ghost use Rattle.formula.specs.Taken.{countOf};
 
-// How many bytes stand in the buffer, or that reading failed, which has been said.
+// How many bytes have been read, or that reading failed, which has been said.
 pub enum Taken {
     Bytes(usize),
     Failed,
 }
 
 // Reads until the buffer is full or the input ends, in pieces of any size.
-pub fn read_all(fd: i32, name: &[u8], buffer: &mut [u8]) -> Taken
-    ensures { λ r. ⌜ countOf r ≤ length (now (buffer .exit)) ⌝ }
-{
+pub fn read_all(fd: i32, name: &[u8], buffer: &mut [u8]) -> Taken {
     let mut n = 0;
     while n < buffer.len() {
         let got = libc::read(fd, &mut buffer[n..]);
@@ -30,9 +25,7 @@ pub fn read_all(fd: i32, name: &[u8], buffer: &mut [u8]) -> Taken
 }
 
 // The same of a file. One that is absent has no bytes.
-pub fn read_table(name: &[u8], buffer: &mut [u8]) -> Taken
-    ensures { λ r. ⌜ countOf r ≤ length (now (buffer .exit)) ⌝ }
-{
+pub fn read_file(name: &[u8], buffer: &mut [u8]) -> Taken {
     let fd = os::open_read(name);
     if fd < 0 {
         if os::errno() == libc::ENOENT {

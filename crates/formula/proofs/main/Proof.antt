@@ -1,8 +1,6 @@
--- `formula::main` meets its contract: the input that was read lies in its buffer. Assumes nothing.
-use mathlib.Core.Path.{ap}
+-- `formula::main` meets its contract: the text lies within its buffer. Assumes nothing.
 use native.Mathlib.Omega.{arith}
 use lib.ListN.{length-take}
-use Rattle.formula.specs.Taken.{countOf}
 use borrow.Author.Needs.{needs}
 use Rattle.formula.proofs.main.Statement.{statement}
 use Rattle.formula.proofs.main.Tie as tie
@@ -25,23 +23,44 @@ enum-told c = search needs
 returns : tie.Need-returns
 returns c = search needs
 
-array-share-prefix-input : tie.Need-array-share-prefix-input
-array-share-prefix-input c =
-    let same = ap countOf (c .before .n .given .1) in
-    let within = c .before .before .before .before .read-all .ensures in
-    omega arith
+slice-aggregate-read-table : tie.Need-slice-aggregate-read-table
+slice-aggregate-read-table c = search needs
 
-slice-aggregate-run : tie.Need-slice-aggregate-run
-slice-aggregate-run c =
-    let same = ap countOf (c .before .before .n .given .1) in
-    let within = c .before .before .before .before .before .read-all .ensures in
-    simp length-take (omega arith)
+read-table-requires : tie.Need-read-table-requires
+read-table-requires c κs = search needs
 
-run-requires : tie.Need-run-requires
-run-requires c κs = search needs
+enum-known-m : tie.Need-enum-known-m
+enum-known-m c = search needs
+
+enum-told-2 : tie.Need-enum-told-2
+enum-told-2 c = search needs
 
 returns-2 : tie.Need-returns-2
 returns-2 c = search needs
+
+answer-requires : tie.Need-answer-requires
+answer-requires c κs = search needs
+
+array-share-prefix-text : tie.Need-array-share-prefix-text
+array-share-prefix-text c = search needs
+
+slice-aggregate-write-all : tie.Need-slice-aggregate-write-all
+slice-aggregate-write-all c = simp length-take (omega arith)
+
+write-all-requires : tie.Need-write-all-requires
+write-all-requires c κs = search needs
+
+slice-aggregate-fail : tie.Need-slice-aggregate-fail
+slice-aggregate-fail c = search needs
+
+fail-requires : tie.Need-fail-requires
+fail-requires c κs = search needs
+
+returns-3 : tie.Need-returns-3
+returns-3 c = search needs
+
+returns-4 : tie.Need-returns-4
+returns-4 c = search needs
 
 pub main-spec : {M : Type 1} → statement M
 main-spec =
@@ -53,7 +72,16 @@ main-spec =
     enum-known-n
     enum-told
     returns
-    array-share-prefix-input
-    slice-aggregate-run
-    run-requires
-    returns-2)
+    slice-aggregate-read-table
+    read-table-requires
+    enum-known-m
+    enum-told-2
+    returns-2
+    answer-requires
+    array-share-prefix-text
+    slice-aggregate-write-all
+    write-all-requires
+    slice-aggregate-fail
+    fail-requires
+    returns-3
+    returns-4)

@@ -1,7 +1,7 @@
--- `formula::first_line::display` meets its contract: by its tests. Assumes nothing.
+-- `formula_text::first_line::display` meets its contract: by its tests. Assumes nothing.
 use borrow.Author.Tests.{ne-eqb}
-use Rattle.formula.proofs.first_line.display.Statement.{statement}
-use Rattle.formula.proofs.first_line.display.Tie as tie
+use Rattle.formula_text.proofs.first_line.display.Statement.{statement}
+use Rattle.formula_text.proofs.first_line.display.Tie as tie
 
 returns : tie.Need-returns
 returns c = rw (c .if1 .taken)

@@ -1,6 +1,7 @@
 // The first line of the input, and the formula behind it.
 ghost use mathlib.Core.Path.{_≡_};
-ghost use Rattle.formula.specs.Input.{displayOf, firstLine, formulaOf};
+ghost use Rattle.spec.specs.Program.{displayOf, firstLine, formulaOf};
+ghost use Rattle.formula_text.specs.Input.{asked};
 
 // The display on or off; or neither `d` nor `i`.
 pub enum FirstLine {
@@ -9,7 +10,7 @@ pub enum FirstLine {
 }
 
 pub fn first_line(input: &[u8]) -> FirstLine
-    ensures { λ r. ⌜ r ≡ firstLine (now (input .entry)) ⌝ }
+    ensures { λ r. ⌜ asked r ≡ firstLine (now (input .entry)) ⌝ }
 {
     if input.len() == 0 {
         return FirstLine::Neither;
@@ -24,7 +25,7 @@ pub fn first_line(input: &[u8]) -> FirstLine
 }
 
 fn display(b: u8) -> FirstLine
-    ensures { λ r. ⌜ r ≡ displayOf b ⌝ }
+    ensures { λ r. ⌜ asked r ≡ displayOf b ⌝ }
 {
     if b == b'd' {
         return FirstLine::Display(true);

@@ -1,9 +1,10 @@
--- Reading stops one byte behind the limits of a formula and of a table, and the answer is that of the whole. Assumes nothing.
---     call-cut    a call on what was read is a call on all that there is to read
-use mathlib.Core.Path.{_≡_, refl, sym, ap, _∙_, subst}
+-- Reading stops one byte behind the limits of a formula and of a table, and what is converted is the same as of the whole. Assumes nothing.
+--     pastFormula, ..    how much is read
+--     converted-cut      a call on what was read is converted as a call on all that there is to read
+use mathlib.Core.Path.{_≡_, refl, sym, ap, _∙_}
 use mathlib.Core.Bool.{Bool, true, false, cond}
-use mathlib.Core.List.{List, []}
-use mathlib.Core.Option.{Option, none, Option·getD}
+use mathlib.Core.List.{List, [], _∷_}
+use mathlib.Core.Option.{none}
 use Prim.Native.Nat.{ℕ, _+_, _<_}
 use native.Mathlib.Omega.{arith}
 use lib.Dec.{ltb}
@@ -12,9 +13,32 @@ use lib.Seq.{take-all}
 use borrow.Author.Tests.{lt-ltb, ltb-true, ltb-false}
 use Rattle.spec.specs.Symbols.{foreign, any}
 use Rattle.spec.specs.Result.{Result, refused, _then_}
-use Rattle.spec.specs.Table.{Definition, definitions, mostBytes, Order}
-use Rattle.spec.specs.Pipeline.{mostFormula, leastWork, admitted, typstToLatex, fitting, converted, answerOf, outputAfter, workAfter, Call}
+use Rattle.spec.specs.Table.{Definition, definitions, mostBytes}
+use Rattle.spec.specs.Program.{firstLine, formulaOf}
+use Rattle.spec.specs.Pipeline.{mostFormula, leastWork, admitted, typstToLatex, fitting, converted}
 
+-- one byte more than a formula, an input (a first line, then the formula) and a table may have
+abbrev pub pastFormula : ℕ
+pastFormula = mostFormula + 1
+
+abbrev pub pastInput : ℕ
+pastInput = 2 + pastFormula
+
+abbrev pub pastTable : ℕ
+pastTable = mostBytes + 1
+
+-- ---- an input
+pub first-cut : (s : List ℕ) → firstLine (take pastInput s) ≡ firstLine s
+first-cut [] = refl
+first-cut (b ∷ []) = refl
+first-cut (b ∷ c ∷ s) = refl
+
+pub formula-cut : (s : List ℕ) → formulaOf (take pastInput s) ≡ take pastFormula (formulaOf s)
+formula-cut [] = refl
+formula-cut (b ∷ []) = refl
+formula-cut (b ∷ c ∷ s) = refl
+
+-- ---- a formula and a table
 -- a text cut behind a limit is whole, or beyond the limit as the whole is
 data Cut (most : ℕ) (s t : List ℕ) : Type 0 where
   whole : t ≡ s → Cut most s t
@@ -31,9 +55,12 @@ long-faulty : (table : List ℕ) → mostBytes < length table → definitions ta
 unfolding definitions
 long-faulty table h = rw (lt-ltb mostBytes (length table) h, definitions)
 
-definitions-cut : {table read : List ℕ} → Cut mostBytes table read → definitions read ≡ definitions table
-definitions-cut (whole e) = ap definitions e
-definitions-cut {table} {read} (beyond h k) = long-faulty read k ∙ sym (long-faulty table h)
+cut-definitions : {table read : List ℕ} → Cut mostBytes table read → definitions read ≡ definitions table
+cut-definitions (whole e) = ap definitions e
+cut-definitions {table} {read} (beyond h k) = long-faulty read k ∙ sym (long-faulty table h)
+
+pub definitions-cut : (table : List ℕ) → definitions (take pastTable table) ≡ definitions table
+definitions-cut table = cut-definitions (cut mostBytes table)
 
 long-refused : (formula table work : List ℕ) → mostFormula < length formula → admitted formula table work ≡ cond (ltb (length work) leastWork) (refused 4) (refused 2)
 long-refused formula table work h = go (ltb (length work) leastWork) refl
@@ -55,21 +82,9 @@ admitted-cut : {formula front : List ℕ} (table read work : List ℕ) → Cut m
 admitted-cut {formula} table read work (whole e) d = ap (λ (s : List ℕ). admitted s read work) e ∙ same-admitted formula table read work d
 admitted-cut {formula} {front} table read work (beyond h k) d = long-refused front read work k ∙ sym (long-refused formula table work h)
 
-pub call-cut : {formula table work output work′ output′ : List ℕ} {display : Bool} {answer : Result ℕ}
-    → Call (take 4097 formula) (take 32769 table) display work output answer work′ output′
-    → Call formula table display work output answer work′ output′
+pub converted-cut :
+    (order : List Definition) (formula table : List ℕ) (display : Bool) (work output : List ℕ)
+    → converted order (take pastFormula formula) (take pastTable table) display work output ≡ converted order formula table display work output
 unfolding converted
-call-cut {formula} {table} {work} {output} {display = display} c =
-    record {
-      order = c .order;
-      ordered = subst (λ ds. Order ds (c .order)) (ap (λ (o : Option (List Definition)). Option·getD o []) same-table) (c .ordered);
-      answers = c .answers ∙ ap answerOf same;
-      clears = c .clears ∙ ap (λ r. workAfter r work) same;
-      writes = c .writes ∙ ap (λ r. outputAfter r output) same;
-    }
-  where
-    same-table : definitions (take 32769 table) ≡ definitions table
-    same-table = definitions-cut (cut mostBytes table)
-
-    same : converted (c .order) (take 4097 formula) (take 32769 table) display work output ≡ converted (c .order) formula table display work output
-    same = ap (λ r. r then typstToLatex (c .order) display then fitting output) (admitted-cut table (take 32769 table) work (cut mostFormula formula) same-table)
+converted-cut order formula table display work output =
+    ap (λ r. r then typstToLatex order display then fitting output) (admitted-cut table (take pastTable table) work (cut mostFormula formula) (definitions-cut table))

@@ -1,12 +1,12 @@
--- `formula::first_line::formula` meets its contract. Assumes nothing.
+-- `formula_text::first_line::formula` meets its contract. Assumes nothing.
 use mathlib.Core.Path.{sym}
 use native.Mathlib.Omega.{arith}
 use Prim.Native.Nat.{_≤_}
 use lib.ListN.{length, drop-of-length-le}
 use Rattle.symbols.specs.Parts.{rest-of}
 use borrow.Author.Needs.{needs}
-use Rattle.formula.proofs.first_line.formula.Statement.{statement}
-use Rattle.formula.proofs.first_line.formula.Tie as tie
+use Rattle.formula_text.proofs.first_line.formula.Statement.{statement}
+use Rattle.formula_text.proofs.first_line.formula.Tie as tie
 
 slice-aggregate-result : tie.Need-slice-aggregate-result
 slice-aggregate-result c = search needs

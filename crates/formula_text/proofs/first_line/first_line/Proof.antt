@@ -1,10 +1,10 @@
--- `formula::first_line::first_line` meets its contract: by the law for each way through it. Assumes nothing.
+-- `formula_text::first_line::first_line` meets its contract: by the law for each way through it. Assumes nothing.
 use mathlib.Core.Path.{_∙_}
 use native.Mathlib.Omega.{arith}
-use Rattle.formula.specs.Input.{first-none, first-alone, first-ended, first-longer}
+use Rattle.formula_text.specs.Input.{first-none, first-alone, first-ended, first-longer}
 use borrow.Author.Needs.{needs}
-use Rattle.formula.proofs.first_line.first_line.Statement.{statement}
-use Rattle.formula.proofs.first_line.first_line.Tie as tie
+use Rattle.formula_text.proofs.first_line.first_line.Statement.{statement}
+use Rattle.formula_text.proofs.first_line.first_line.Tie as tie
 
 returns : tie.Need-returns
 returns c = first-none (c .before .before .args .input .now) (c .if1 .taken)
@@ -16,7 +16,9 @@ display-requires : tie.Need-display-requires
 display-requires c κs = search needs
 
 returns-2 : tie.Need-returns-2
-returns-2 c = c .display .ensures ∙ first-alone (c .before .before .before .before .before .args .input .now) (c .before .before .if2 .taken)
+returns-2 c =
+    let alone = c .before .before in
+    c .display .ensures ∙ first-alone (alone .before .before .before .args .input .now) (alone .if2 .taken)
 
 shared-slice-read-if3 : tie.Need-shared-slice-read-if3
 shared-slice-read-if3 c = search needs
@@ -28,10 +30,15 @@ display-requires-2 : tie.Need-display-requires-2
 display-requires-2 c κs = search needs
 
 returns-3 : tie.Need-returns-3
-returns-3 c = c .display2 .ensures ∙ first-ended (c .before .before .before .before .before .before .before .args .input .now) (omega arith) (c .before .before .if3 .taken)
+returns-3 c =
+    let ended = c .before .before in
+    let longer = ended .before .before in
+    c .display2 .ensures ∙ first-ended (longer .before .before .before .args .input .now) (omega arith) (ended .if3 .taken)
 
 returns-4 : tie.Need-returns-4
-returns-4 c = first-longer (c .before .before .before .before .before .args .input .now) (omega arith) (c .if3 .left)
+returns-4 c =
+    let longer = c .before .before in
+    first-longer (longer .before .before .before .args .input .now) (omega arith) (c .if3 .left)
 
 pub first-line-spec : {M : Type 1} → statement M
 first-line-spec =

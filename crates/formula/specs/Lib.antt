@@ -1,4 +1,0 @@
--- What the program's contracts cite.
-pub mod Input
-pub mod Taken
-pub mod Cut
