@@ -1,0 +1,53 @@
+// Answers the cases of standard input by the function that the program `formula` prints. `tests/formula` writes the cases and what is expected.
+//
+// A case is the length of its input and that of its table, two bytes each, most significant first; then the input; then the table.
+use formula_text::INPUT;
+use formula_text::TABLE;
+use formula_text::TEXT;
+ghost use Prim.Native.Nat.{_≤_};
+
+// More than there are.
+const CASES: usize = 1_000;
+
+fn main() {
+    for _ in 0..CASES {
+        if !answer_next() {
+            return;
+        }
+    }
+}
+
+// Whether there was a case.
+fn answer_next() -> bool {
+    let mut lengths = [0u8; 4];
+    if io::read_full(0, &mut lengths) < 4 {
+        return false;
+    }
+    let n = number(lengths[0], lengths[1]);
+    let m = number(lengths[2], lengths[3]);
+    if INPUT < n {
+        return false;
+    }
+    if TABLE < m {
+        return false;
+    }
+    answer(n, m);
+    true
+}
+
+fn number(high: u8, low: u8) -> usize {
+    (high as usize) * 256 + (low as usize)
+}
+
+// What stands behind the bytes that are read must not count, so it is no zeros.
+fn answer(n: usize, m: usize)
+    requires { ⌜ (n ≤ 4099) × (m ≤ 32769) ⌝ }
+{
+    let mut input = [b'd'; INPUT];
+    let mut table = [b'd'; TABLE];
+    let mut text = [b'd'; TEXT];
+    io::read_full(0, &mut input[..n]);
+    io::read_full(0, &mut table[..m]);
+    let count = formula_text::answer(&input, n, &table, m, &mut text);
+    io::write_all(1, &text[..count]);
+}
