@@ -5,3 +5,4 @@ pub mod Standing
 pub mod Reports
 pub mod Cut
 pub mod Runs
+pub mod Examples
