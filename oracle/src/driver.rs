@@ -18,6 +18,7 @@ mod plain_trial;
 mod record;
 mod rng;
 mod short;
+mod smallest;
 mod stages;
 mod table;
 mod tables;
@@ -41,6 +42,7 @@ judge generate SEED N                N generated cases as such lines
 judge crosscheck SEED N [FILE]       judges N generated cases and all recorded ones against the unchanged functions
 judge short [FILE]                   makes the list of short plain formulas (default crates/short_formulas/stdout): says
                                      that the file is the same, or writes it
+judge smallest                       the shortest texts that 5 to 9 refuse, by a search through all of them; some minutes
 judge stages < LINES                 each line by one function of the Rust, as the program stage_lines answers it
 judge compare SEED N                 the library against the judge; only as oracle/trial builds it
 judge plain SEED N                   the library's plain check against another parser; only as oracle/trial builds it";
@@ -74,6 +76,7 @@ fn run() -> bool {
         ["crosscheck", seed, n, file] => crosscheck(number(seed), number(n), file),
         ["short"] => short(SHORT_FORMULAS),
         ["short", file] => short(file),
+        ["smallest"] => smallest::smallest(),
         ["stages"] => stages::stages(),
         #[cfg(feature = "library")]
         ["compare", seed, n] => compare::compare(number(seed), number(n), &read_recorded(RECORDED)),
