@@ -4,8 +4,10 @@
 mod reading;
 
 use formula_text::INPUT;
+use formula_text::OUTPUT;
 use formula_text::TABLE;
 use formula_text::TEXT;
+use formula_text::WORK;
 use libc::STDIN_FILENO;
 use libc::STDOUT_FILENO;
 use reading::Taken;
@@ -19,8 +21,10 @@ fn main() {
     let Taken::Bytes(m) = read_table(&input, n, &mut table) else {
         return;
     };
+    let mut work = [0; WORK];
+    let mut output = [0; OUTPUT];
     let mut text = [0; TEXT];
-    let count = formula_text::answer(&input, n, &table, m, &mut text);
+    let count = formula_text::answer(&input, n, &table, m, &mut work, &mut output, &mut text);
     if !io::write_all(STDOUT_FILENO, &text[..count]) {
         os::fail(b"standard output");
     }

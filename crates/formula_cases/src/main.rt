@@ -2,8 +2,10 @@
 //
 // A case is the length of its input and that of its table, two bytes each, most significant first; then the input; then the table.
 use formula_text::INPUT;
+use formula_text::OUTPUT;
 use formula_text::TABLE;
 use formula_text::TEXT;
+use formula_text::WORK;
 ghost use Prim.Native.Nat.{_≤_};
 
 // More than there are.
@@ -39,15 +41,17 @@ fn number(high: u8, low: u8) -> usize {
     (high as usize) * 256 + (low as usize)
 }
 
-// What stands behind the bytes that are read must not count, so it is no zeros.
+// What stands behind the bytes that are read, or in the buffers before, must not count, so it is no zeros.
 fn answer(n: usize, m: usize)
     requires { ⌜ (n ≤ 4099) × (m ≤ 32769) ⌝ }
 {
     let mut input = [b'd'; INPUT];
     let mut table = [b'd'; TABLE];
+    let mut work = [b'd'; WORK];
+    let mut output = [b'd'; OUTPUT];
     let mut text = [b'd'; TEXT];
     io::read_full(0, &mut input[..n]);
     io::read_full(0, &mut table[..m]);
-    let count = formula_text::answer(&input, n, &table, m, &mut text);
+    let count = formula_text::answer(&input, n, &table, m, &mut work, &mut output, &mut text);
     io::write_all(1, &text[..count]);
 }

@@ -8,7 +8,8 @@ ghost use mathlib.Core.Path.{_≡_};
 ghost use mathlib.Core.List.{List};
 ghost use Prim.Native.Nat.{ℕ, _≤_};
 ghost use lib.ListN.{length, take};
-ghost use Rattle.spec.specs.Program.{firstLine, Read, Prints};
+ghost use Rattle.spec.specs.Pipeline.{leastWork};
+ghost use Rattle.spec.specs.Program.{firstLine, mostOutput, Read, Prints};
 ghost use Rattle.formula_text.specs.Input.{isAsked};
 ghost use Rattle.formula_text.specs.Standing.{mostText};
 ghost use Rattle.formula_text.specs.Runs.{Converts};
@@ -22,24 +23,30 @@ pub const TABLE: usize = 32_769;
 // The longest text: `ok`, a space, four digits, a newline, 8,192 bytes of LaTeX, a newline.
 pub const TEXT: usize = 8_201;
 
-const OUTPUT: usize = 8_192;
+// The entry's buffers.
+pub const WORK: usize = 32_768;
+
+pub const OUTPUT: usize = 8_192;
 
 // Puts the text to print at the start of `text`, and gives its length. Of the input `n` bytes have been read, of the table `m`: all that there
-// are, or as many as fit. A table that is not wanted need not be read.
+// are, or as many as fit. A table that is not wanted need not be read. `work` and `output` are lent to the entry.
 pub fn answer(
     input: &[u8; INPUT],
     n: usize,
     table: &[u8; TABLE],
     m: usize,
+    work: &mut [u8; WORK],
+    output: &mut [u8; OUTPUT],
     text: &mut [u8; TEXT],
 ) -> usize
-    ensures { λ r. ⌜ Prints (now (input .entry)) n (now (table .entry)) m (now (text .entry)) r (now (text .exit)) ⌝ }
+    ensures { λ r. ⌜ Prints (now (input .entry)) n (now (table .entry)) m (now (work .entry)) (now (output .entry)) (now (text .entry)) r (now (work .exit)) (now (output .exit)) (now (text .exit)) ⌝ }
     ensures { λ r. ⌜ r ≤ length (now (text .exit)) ⌝ }
 {
     let read = front(input, n);
     match first_line::first_line(read) {
         FirstLine::Display(display) => {
-            convert(first_line::formula(read), front(table, m), display, text)
+            let formula = first_line::formula(read);
+            convert(formula, front(table, m), display, work, output, text)
         }
         FirstLine::Neither => report::put_neither(text),
     }
@@ -66,13 +73,20 @@ fn front(s: &[u8], n: usize) -> &[u8]
 }
 
 // The text of the entry's answer.
-fn convert(formula: &[u8], table: &[u8], display: bool, text: &mut [u8]) -> usize
+fn convert(
+    formula: &[u8],
+    table: &[u8],
+    display: bool,
+    work: &mut [u8],
+    output: &mut [u8],
+    text: &mut [u8],
+) -> usize
+    requires { ⌜ length (now work) ≡ leastWork ⌝ }
+    requires { ⌜ length (now output) ≡ mostOutput ⌝ }
     requires { ⌜ mostText ≤ length (now text) ⌝ }
-    ensures { λ r. ⌜ Converts (now (formula .entry)) (now (table .entry)) display (now (text .entry)) r (now (text .exit)) ⌝ }
+    ensures { λ r. ⌜ Converts (now (formula .entry)) (now (table .entry)) display (now (work .entry)) (now (output .entry)) (now (text .entry)) r (now (work .exit)) (now (output .exit)) (now (text .exit)) ⌝ }
 {
-    let mut work = [0; math_conv::LEAST_WORK];
-    let mut output = [0; OUTPUT];
-    match math_conv::typst_to_latex(formula, table, display, &mut work, &mut output) {
+    match math_conv::typst_to_latex(formula, table, display, work, output) {
         Answer::Done(n) => report::put_latex(text, &output[..n]),
         Answer::Refused(why) => report::put_refusal(text, why),
     }

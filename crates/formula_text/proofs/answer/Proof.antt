@@ -1,5 +1,5 @@
 -- `formula_text::answer` meets its contract: what was read stands for all that there is to read. Assumes nothing.
-use mathlib.Core.Path.{_≡_, sym, ap, _∙_}
+use mathlib.Core.Path.{_≡_, refl, sym, ap, _∙_}
 use lib.ListN.{take}
 use borrow.Author.Needs.{needs}
 use Rattle.spec.specs.Program.{firstLine}
@@ -41,7 +41,8 @@ put-neither-requires c κs = search needs
 
 returns : tie.Need-returns
 returns c =
-    let table = c .before .before in
+    let lent = c .before .before .before in
+    let table = lent .before in
     let formula = table .before .before in
     let display = formula .before .before in
     let first = display .before .before in
@@ -55,7 +56,7 @@ returns-2 c =
     let told = c .before .before in
     let first = told .before .before in
     let a = start first .args in
-    let p = prints-neither (a .input .now) (a .n) (search needs) (a .table .now) (a .m) (ap asked (sym (told .enum-told .given .1)) ∙ line first) (c .put-neither .ensures) in
+    let p = prints-neither (a .input .now) (a .n) (search needs) (a .table .now) (a .m) (ap asked (sym (told .enum-told .given .1)) ∙ line first) (c .put-neither .ensures) refl refl in
     (p, prints-within (a .input .now) (a .n) (a .table .now) (a .m) p)
 
 pub answer-spec : {M : Type 1} → statement M

@@ -11,21 +11,24 @@ use borrow.Author.Needs.{needs}
 use Rattle.formula_text.proofs.convert.Statement.{statement}
 use Rattle.formula_text.proofs.convert.Tie as tie
 
--- ---- the call, from either arm
-abbrev done : tie.After-n → tie.After-typst-to-latex
-done c = let made = c .before .before in made .before .before
+-- ---- the call, from where its answer is taken apart
+abbrev call : tie.After-slice-known5 → tie.After-typst-to-latex
+call c = let work = c .before .before .before in work .before
 
-abbrev refused : tie.After-why → tie.After-typst-to-latex
-refused c = let made = c .before .before in made .before .before
+abbrev start : tie.After-slice-known5 → tie.Start
+start c =
+    let lent = call c .before .before .before in
+    let known = lent .before .before .before in
+    known .before .before
+
+abbrev done : tie.After-n → tie.After-slice-known5
+done c = c .before .before
 
 fits : (c : tie.After-n) → c .n .given .0 .0 ≤ mostOutput
-fits c = let f = call-fits (done c .typst-to-latex .ensures) (c .n .given .1) in omega arith
-
-slice-aggregate-typst-to-latex : tie.Need-slice-aggregate-typst-to-latex
-slice-aggregate-typst-to-latex c = search needs
-
-slice-aggregate-typst-to-latex-2 : tie.Need-slice-aggregate-typst-to-latex-2
-slice-aggregate-typst-to-latex-2 c = search needs
+fits c =
+    let f = call-fits (call (done c) .typst-to-latex .ensures) (c .n .given .1) in
+    let l = start (done c) .pre .1 .0 in
+    omega arith
 
 typst-to-latex-requires : tie.Need-typst-to-latex-requires
 typst-to-latex-requires c κs = search needs
@@ -33,8 +36,8 @@ typst-to-latex-requires c κs = search needs
 enum-known-n : tie.Need-enum-known-n
 enum-known-n c = search needs
 
-array-share-prefix-output : tie.Need-array-share-prefix-output
-array-share-prefix-output c = let f = fits (c .before .before) in omega arith
+slice-reshare-prefix-put-latex : tie.Need-slice-reshare-prefix-put-latex
+slice-reshare-prefix-put-latex c = let f = fits (c .before .before) in omega arith
 
 slice-aggregate-put-latex : tie.Need-slice-aggregate-put-latex
 slice-aggregate-put-latex c = let f = fits (c .before .before .before) in simp length-take (omega arith)
@@ -51,36 +54,51 @@ put-refusal-requires c κs = search needs
 same-length : tie.Need-same-length
 same-length c = search needs
 
+same-length-2 : tie.Need-same-length-2
+same-length-2 c = search needs
+
+same-length-3 : tie.Need-same-length-3
+same-length-3 c = search needs
+
 returns : tie.Need-returns
 returns c =
     let put = c .before .before in
-    let lent = put .before .before in
-    let n = lent .before .before in
-    converts-done (ap meaning (n .n .given .1)) (done n .typst-to-latex .ensures) (put .put-latex .ensures)
+    let n = put .before .before .before .before in
+    let made = done n in
+    converts-done (start made .pre .0) (start made .pre .1 .0) (call made .typst-to-latex .ensures) (ap meaning (n .n .given .1)) (put .put-latex .ensures)
 
-same-length-2 : tie.Need-same-length-2
-same-length-2 c = search needs
+same-length-4 : tie.Need-same-length-4
+same-length-4 c = search needs
+
+same-length-5 : tie.Need-same-length-5
+same-length-5 c = search needs
+
+same-length-6 : tie.Need-same-length-6
+same-length-6 c = search needs
 
 returns-2 : tie.Need-returns-2
 returns-2 c =
     let put = c .before .before in
     let why = put .before .before .before in
-    converts-refused (ap meaning (why .why .given .1)) (refused why .typst-to-latex .ensures) (put .put-refusal .ensures)
+    let made = why .before .before in
+    converts-refused (start made .pre .0) (start made .pre .1 .0) (call made .typst-to-latex .ensures) (ap meaning (why .why .given .1)) (put .put-refusal .ensures)
 
 pub convert-spec : {M : Type 1} → statement M
 convert-spec =
     tie.close
     (tie.spec
-    slice-aggregate-typst-to-latex
-    slice-aggregate-typst-to-latex-2
     typst-to-latex-requires
     enum-known-n
-    array-share-prefix-output
+    slice-reshare-prefix-put-latex
     slice-aggregate-put-latex
     put-latex-requires
     enum-known-why
     put-refusal-requires
     same-length
-    returns
     same-length-2
+    same-length-3
+    returns
+    same-length-4
+    same-length-5
+    same-length-6
     returns-2)
