@@ -20,11 +20,6 @@ pub const OUTPUT_BYTES: usize = 8_192;
 const NAME_BYTES: usize = 63;
 const LATEX_BYTES: usize = 1_023;
 
-/// A plain check of a text with so many opening parentheses runs on any stack of 1 MB.
-const PARENTHESES: usize = 500;
-/// Enough stack for 4,096 open parentheses.
-const PLAIN_STACK: usize = 8 << 20;
-
 /// What a call is lent. One for each thread, so that a call allocates its answer only.
 struct Buffers {
     work: Box<[u8]>,
@@ -88,20 +83,8 @@ pub fn convert<'a>(
 
 /// The atoms of a plain formula, one-byte scripts not counted; None where the formula is not plain.
 ///
-/// The check takes about 1 KB of stack for each parenthesis that is open. A text with very many of them is checked in a
-/// thread of its own, with room for the most that 4,096 bytes can have.
+/// The check takes 272 bytes of stack for each parenthesis that is open, 1.2 MB at most: a thread's usual 2 MiB are enough.
 pub fn plain_check(formula: &[u8]) -> Option<usize> {
-    let open = formula.iter().filter(|&&byte| byte == b'(').count();
-    if open <= PARENTHESES || formula.len() > FORMULA_BYTES {
-        return check(formula);
-    }
-    std::thread::scope(|scope| {
-        let thread = std::thread::Builder::new().stack_size(PLAIN_STACK);
-        thread.spawn_scoped(scope, || check(formula)).expect("a thread").join().expect("the check ends")
-    })
-}
-
-fn check(formula: &[u8]) -> Option<usize> {
     let mut atoms = 0;
     // SAFETY: as above.
     let plain = unsafe { raw::jistranu_plain_check(formula.as_ptr(), formula.len(), &mut atoms) };
