@@ -12,7 +12,7 @@ pub const TURNS: usize = 7;
 pub const TYPICAL_TURNS: usize = 21;
 /// A turn has as many calls as fit in so many seconds.
 const TURN: f64 = 0.004;
-/// Where one call of the Rust takes longer than this, two turns more are enough.
+/// Where one call of the Rust takes longer than this, two turns are enough.
 const LONG_CALL: f64 = 0.05;
 
 pub struct Converters {
@@ -85,23 +85,41 @@ impl Converters {
     }
 
     /// None where the Rust panics.
-    pub fn times(&mut self, turns: usize, formula: &str) -> Option<Times> {
+    fn once(&mut self, formula: &str) -> Option<Times> {
         let refused = self.compared(formula)?;
-        let calls = |once: f64| (TURN / once).clamp(1.0, 2_000.0) as u32;
-        let mut best = Times {
+        Some(Times {
             floor: self.time_floor(1),
             ours: self.time_ours(1, formula),
             kept: self.time_kept(1, formula),
             as_is: self.time_as_is(1, formula),
             refused,
-        };
-        for _ in 0..if best.as_is > LONG_CALL { 2 } else { turns } {
-            best.floor = best.floor.min(self.time_floor(calls(best.floor)));
-            best.ours = best.ours.min(self.time_ours(calls(best.ours), formula));
-            best.kept = best.kept.min(self.time_kept(calls(best.kept), formula));
-            best.as_is = best.as_is.min(self.time_as_is(calls(best.as_is), formula));
+        })
+    }
+
+    fn turn(&mut self, formula: &str, best: &mut Times) {
+        let calls = |once: f64| (TURN / once).clamp(1.0, 2_000.0) as u32;
+        best.floor = best.floor.min(self.time_floor(calls(best.floor)));
+        best.ours = best.ours.min(self.time_ours(calls(best.ours), formula));
+        best.kept = best.kept.min(self.time_kept(calls(best.kept), formula));
+        best.as_is = best.as_is.min(self.time_as_is(calls(best.as_is), formula));
+    }
+
+    /// A turn of every text before the next turn of the first, so that where the machine changes its speed all texts have had
+    /// both. None where the Rust panics.
+    pub fn times_of(&mut self, turns: usize, formulas: &[String]) -> Vec<Option<Times>> {
+        let mut all: Vec<Option<Times>> = formulas.iter().map(|formula| self.once(formula)).collect();
+        for turn in 0..turns {
+            for (formula, best) in formulas.iter().zip(&mut all) {
+                if let Some(best) = best.as_mut().filter(|best| turn < 2 || best.as_is <= LONG_CALL) {
+                    self.turn(formula, best);
+                }
+            }
         }
-        Some(best)
+        all
+    }
+
+    pub fn times(&mut self, turns: usize, formula: &str) -> Option<Times> {
+        self.times_of(turns, &[formula.to_string()])[0]
     }
 }
 

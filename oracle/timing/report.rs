@@ -19,7 +19,6 @@ pub struct Report {
 }
 
 impl Report {
-    /// Printed at once, since a run takes minutes.
     fn line(&mut self, line: &str) {
         println!("{line}");
         self.text.push_str(line);
@@ -32,13 +31,13 @@ impl Report {
         self.line("Jistranu the Rust.\n");
         self.line("| formula | bytes | floor | Jistranu | kept | as it is | floors | kept, times | as it is, times |");
         self.line("|---|---|---|---|---|---|---|---|---|");
-        let mut all = Vec::new();
-        for formula in TYPICAL {
+        let formulas: Vec<String> = TYPICAL.into_iter().map(str::to_string).collect();
+        let every = converters.times_of(TYPICAL_TURNS, &formulas);
+        let all: Vec<Times> = every.into_iter().map(|times| times.expect("the Rust takes the formula")).collect();
+        for (formula, times) in formulas.iter().zip(&all) {
             assert!((10..=80).contains(&formula.len()), "{formula} has {} bytes", formula.len());
-            let times = converters.times(TYPICAL_TURNS, formula).expect("the Rust takes the formula");
             assert_eq!(times.refused, 0, "{formula} is refused");
-            self.line(&format!("| `{formula}` | {} | {} |", formula.len(), cells(times)));
-            all.push(times);
+            self.line(&format!("| `{formula}` | {} | {} |", formula.len(), cells(*times)));
         }
         let (kept, as_is) = (sorted(&all, |t| t.kept / t.ours), sorted(&all, |t| t.as_is / t.ours));
         let floors = sorted(&all, |t| t.ours / t.floor);
@@ -71,9 +70,11 @@ impl Report {
              | floor | floors at 16 | floors at 4,096 |",
         );
         self.line("|---|---|---|---|---|---|---|---|---|---|---|---|---|---|---|");
-        for (family, shape) in families() {
-            let all: Vec<Times> = LENGTHS.iter().filter_map(|&bytes| converters.times(TURNS, &shape.text(bytes))).collect();
-            assert_eq!(all.len(), LENGTHS.len(), "the Rust panics on {family}");
+        let families = families();
+        let texts: Vec<String> = families.iter().flat_map(|(_, shape)| LENGTHS.map(|bytes| shape.text(bytes))).collect();
+        let every = converters.times_of(TURNS, &texts);
+        for ((family, shape), times) in families.into_iter().zip(every.chunks(LENGTHS.len())) {
+            let all: Vec<Times> = times.iter().map(|t| t.unwrap_or_else(|| panic!("the Rust panics on {family}"))).collect();
             let mut line = format!("| {} | {} |", family.replace('|', "\\|"), shape.shown());
             for times in &all {
                 let _ = write!(line, " {} |", microseconds(times.ours));
