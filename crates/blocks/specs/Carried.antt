@@ -22,12 +22,12 @@ use Rattle.text.specs.declared.Refusal.{Refusal}
 use Rattle.text.specs.declared.Refusal.the-variants.{LostBlock}
 use Rattle.text.specs.declared.Progress.{Progress}
 use Rattle.text.specs.declared.Progress.the-variants.{Text, Refused}
-use Rattle.held.specs.Marks.{hasMark, count, order}
-use Rattle.held.specs.Noted.{noted}
+use Rattle.held_laws.specs.Marks.{hasMark, count, order}
+use Rattle.held_laws.specs.Noted.{noted}
 use Rattle.held.specs.Filing.{blocksAt}
-use Rattle.held.specs.WellMade.{WellMade, lost}
-use Rattle.held.specs.PutBack.{put-back-lost}
-use Rattle.held.specs.Blockless.{put-back-none}
+use Rattle.held_laws.specs.WellMade.{WellMade, lost}
+use Rattle.held_laws.specs.PutBack.{put-back-lost}
+use Rattle.held_laws.specs.Blockless.{put-back-none}
 use Rattle.held.specs.Back.{Back, storedFrom}
 use Rattle.held.specs.Holds.{Holds, holds-rewritten, holds-lost, back-romans, romans-back, back-texts, all-back}
 use Rattle.entries.specs.Sized.{Within, StagedWithin, sized}

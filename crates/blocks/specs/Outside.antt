@@ -18,13 +18,13 @@ use Rattle.text.specs.Stage.{Ready, Placed, placed-text, placed-fits, placed-re
 use Rattle.text.specs.declared.Progress.{Progress}
 use Rattle.text.specs.declared.Progress.the-variants.{Text, Refused}
 use Rattle.held.specs.declared.Marked.{Marked}
-use Rattle.held.specs.Marks.{hasMark, joined}
-use Rattle.held.specs.WellMade.{Every, Plain, Enclosing, WellMade, joined-append}
-use Rattle.held.specs.InFull.{in-full-length, text-marks-left, filled-length}
-use Rattle.held.specs.Holding.{hold-texts-made, hold-both-made}
-use Rattle.held.specs.Blockless.{hold-texts-none, hold-both-none}
+use Rattle.held_laws.specs.Marks.{hasMark, joined}
+use Rattle.held_laws.specs.WellMade.{Every, Plain, Enclosing, WellMade, joined-append}
+use Rattle.held_laws.specs.InFull.{in-full-length, text-marks-left, filled-length}
+use Rattle.held_laws.specs.Holding.{hold-texts-made, hold-both-made}
+use Rattle.held_laws.specs.Blockless.{hold-texts-none, hold-both-none}
 use Rattle.held.specs.Keeping.{keeps-none}
-use Rattle.held.specs.Limits.{hold-texts-full, hold-both-full}
+use Rattle.held_laws.specs.Limits.{hold-texts-full, hold-both-full}
 use Rattle.held.specs.Filing.{HeldOut}
 use Rattle.held.specs.HoldOut.{Hold, takenFrom}
 use Rattle.held.specs.Holds.{Holds, holds-texts, holds-both}

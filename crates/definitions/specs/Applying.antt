@@ -21,9 +21,9 @@ use Rattle.spec.specs.Laws.Table.{rearranged-by-length}
 use Rattle.symbols.specs.Parts.{length-part}
 use Rattle.text.specs.Stage.{Ready, shown}
 use Rattle.text.specs.declared.Progress.{Progress}
-use Rattle.held.specs.WellMade.{WellMade}
-use Rattle.held.specs.Rewriting.{sweep-made}
-use Rattle.held.specs.Instances.{Sound, EverySound, defined-between, sound-table, sound-order, definitions-made}
+use Rattle.held_laws.specs.WellMade.{WellMade}
+use Rattle.held_laws.specs.Rewriting.{sweep-made}
+use Rattle.held_laws.specs.Instances.{Sound, EverySound, defined-between, sound-table, sound-order, definitions-made}
 use Rattle.entries.specs.Bounded.{Fair}
 use Rattle.entries.specs.Sized.{sized, Within, Applied, StagedWithin, Remaining, remaining-none, remaining-step}
 use Rattle.table.specs.declared.Record.{Record}

@@ -16,8 +16,8 @@ use borrow.Author.Tests.{eq-eqb, ne-eqb}
 use Rattle.spec.specs.Held.{filled}
 use Rattle.symbols.specs.Parts.{part, length-part, getD-part}
 use Rattle.text.specs.Writer.{Room, Appended, Apart, appended-none, appended-more, appended-long, appended-part, puts-outside}
-use Rattle.held.specs.Marks.{count, blockAt}
-use Rattle.held.specs.InFull.{returned, filled-returned}
+use Rattle.held_laws.specs.Marks.{count, blockAt}
+use Rattle.held_laws.specs.InFull.{returned, filled-returned}
 use Rattle.held.specs.Filing.{blocksAt, blocksRoom, placesAt, placesRoom}
 
 -- a number of two bytes

@@ -16,7 +16,7 @@ use lib.ListN.{length, set, length-append}
 use lib.Seq.{set-comm}
 use Rattle.symbols.specs.Parts.{part}
 use Rattle.text.specs.Writer.{stored, puts, Appended, Apart, appended-none, appended-more}
-use Rattle.held.specs.Marks.{joined}
+use Rattle.held_laws.specs.Marks.{joined}
 
 -- behind the two regions of 8,192 that texts lie in
 abbrev pub blocksAt : ℕ

@@ -22,7 +22,7 @@ use Rattle.text.specs.Writer.{Room, Appended, Apart, apart-part, appended-long,
 use Rattle.search.specs.Search.{Closes, closes-at, closes-within, closes-nothing}
 use Rattle.search.specs.declared.Found.{Found}
 use Rattle.search.specs.declared.Found.the-variants.{At, Nothing}
-use Rattle.held.specs.TakeOut.{turn-passing, turn-unclosed, turn-holding}
+use Rattle.held_laws.specs.TakeOut.{turn-passing, turn-unclosed, turn-holding}
 use Rattle.held.specs.Filing.{blocksAt, blocksRoom, placesAt, placesRoom, HeldOut, Kept, held-none, held-text, held-block}
 
 pub record Hold (w : List ℕ) (from n to used filed : ℕ) : Type 0 where

@@ -17,11 +17,11 @@ use Rattle.symbols.specs.Parts.{part}
 use Rattle.text.specs.Writer.{Appended, Apart, appended-long, appended-part}
 use Rattle.text.specs.Written.{appended-text, appended-written, wrote-beyond}
 use Rattle.held.specs.declared.Marked.{Marked}
-use Rattle.held.specs.Marks.{hasMark, count, order, joined, has-mark-append}
-use Rattle.held.specs.Noted.{noted}
-use Rattle.held.specs.WellMade.{WellMade, lost, joined-append, plain-joined}
-use Rattle.held.specs.InFull.{text-marks-left}
-use Rattle.held.specs.Limits.{texts-few, texts-short, both-few, both-short}
+use Rattle.held_laws.specs.Marks.{hasMark, count, order, joined, has-mark-append}
+use Rattle.held_laws.specs.Noted.{noted}
+use Rattle.held_laws.specs.WellMade.{WellMade, lost, joined-append, plain-joined}
+use Rattle.held_laws.specs.InFull.{text-marks-left}
+use Rattle.held_laws.specs.Limits.{texts-few, texts-short, both-few, both-short}
 use Rattle.held.specs.Filing.{blocksAt, HeldOut}
 use Rattle.held.specs.HoldOut.{Hold, takenFrom}
 use Rattle.held.specs.Back.{Back, storedFrom}

@@ -15,8 +15,8 @@ use lib.Seq.{drop-drop, drop-append-add, take-append-seam, getD-take, getD-drop}
 use Rattle.symbols.specs.Parts.{part, getD-part, sub-part}
 use Rattle.text.specs.Writer.{Appended, appended-long, appended-part}
 use Rattle.text.specs.Written.{Wrote, wrote-more, wrote-text}
-use Rattle.held.specs.Marks.{blockAt, joined}
-use Rattle.held.specs.WellMade.{joined-append, block-append, block-front}
+use Rattle.held_laws.specs.Marks.{blockAt, joined}
+use Rattle.held_laws.specs.WellMade.{joined-append, block-append, block-front}
 use Rattle.held.specs.Filing.{blocksAt, blocksRoom, placesAt, placesRoom, place, files, HeldOut}
 use Rattle.held.specs.Back.{startAt, longAt, storedAt, storedFrom, Filed}
 

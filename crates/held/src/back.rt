@@ -5,7 +5,7 @@ ghost use lib.ListN.{length};
 ghost use Rattle.spec.specs.Held.{filled};
 ghost use Rattle.symbols.specs.Parts.{part};
 ghost use Rattle.text.specs.Writer.{Room, Appended};
-ghost use Rattle.held.specs.Marks.{count};
+ghost use Rattle.held_laws.specs.Marks.{count};
 ghost use Rattle.held.specs.Filing.{blocksAt};
 ghost use Rattle.held.specs.Back.{Filed, Back, storedAt, storedFrom};
 

@@ -17,9 +17,9 @@ use Rattle.spec.specs.Laws.Symbols.{drop-step}
 use Rattle.symbols.specs.Parts.{part, rest-of}
 use Rattle.search.specs.declared.Found.{Found}
 use Rattle.search.specs.declared.Found.the-variants.{At, Nothing}
-use Rattle.held.specs.Marks.{isMark, hasMark, first, order, and-true}
-use Rattle.held.specs.Numeral.{horner, numeral}
-use Rattle.held.specs.Noted.{takes, noted}
+use Rattle.held_laws.specs.Marks.{isMark, hasMark, first, order, and-true}
+use Rattle.held_laws.specs.Numeral.{horner, numeral}
+use Rattle.held_laws.specs.Noted.{takes, noted}
 
 abbrev pub mostNumber : ℕ
 mostNumber = 16384

@@ -7,9 +7,9 @@ ghost use mathlib.Core.Path.{_≡_};
 ghost use Prim.Native.Nat.{_+_, _<_, _≤_};
 ghost use lib.ListN.{length};
 ghost use Rattle.symbols.specs.Parts.{part};
-ghost use Rattle.held.specs.Marks.{isMark, hasMark, first, order};
-ghost use Rattle.held.specs.Numeral as numerals;
-ghost use Rattle.held.specs.Noted as noting;
+ghost use Rattle.held_laws.specs.Marks.{isMark, hasMark, first, order};
+ghost use Rattle.held_laws.specs.Numeral as numerals;
+ghost use Rattle.held_laws.specs.Noted as noting;
 ghost use Rattle.held.specs.Filing.{blocksAt};
 ghost use Rattle.lost_blocks.specs.Reading.{mostNumber, readDigits, readNumeral};
 

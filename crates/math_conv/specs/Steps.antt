@@ -27,7 +27,7 @@ use Rattle.text.specs.declared.Progress.the-variants.{Text, Refused}
 use Rattle.text.specs.declared.Refusal.{Refusal}
 use Rattle.text.specs.declared.Refusal.the-variants.{ForeignByte, LongFormula, FaultyTable, ShortOutput}
 use Rattle.table.specs.Sound.{refused as isRefused}
-use Rattle.held.specs.Marks.{isMark, hasMark}
+use Rattle.held_laws.specs.Marks.{isMark, hasMark}
 use Rattle.math_conv.specs.declared.Answer.{Answer}
 use Rattle.math_conv.specs.declared.Answer.the-variants.{Done, Refused as RefusedBy}
 use Rattle.stages.specs.Fit.{Fit}

@@ -17,10 +17,10 @@ use borrow.Author.Tests.{ne-eqb, eqb-true, eqb-false, le-leb}
 use Rattle.spec.specs.Symbols.{digit, head, starts, textMark, romanMark}
 use Rattle.spec.specs.Sweep.{Turn, Rule, kept, taken, sweep}
 use Rattle.spec.specs.Held.{placeholder}
-use Rattle.held.specs.Decimal.{decimal, Digits, decimal-digits}
-use Rattle.held.specs.Marks.{isMark, hasMark, first, rest, fill, or-false}
-use Rattle.held.specs.Replacing.{starts-split, starts-unequal}
-use Rattle.held.specs.Rewriting.{Between}
+use Rattle.held_laws.specs.Decimal.{decimal, Digits, decimal-digits}
+use Rattle.held_laws.specs.Marks.{isMark, hasMark, first, rest, fill, or-false}
+use Rattle.held_laws.specs.Replacing.{starts-split, starts-unequal}
+use Rattle.held_laws.specs.Rewriting.{Between}
 use Rattle.placeholders.specs.Finding.{Lacks}
 
 -- ---- sweeps

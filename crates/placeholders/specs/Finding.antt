@@ -12,9 +12,9 @@ use borrow.Author.Tests.{ne-eqb}
 use Rattle.spec.specs.Symbols.{starts, find, textMark}
 use Rattle.spec.specs.Laws.Symbols.{find-past}
 use Rattle.spec.specs.Held.{placeholder}
-use Rattle.held.specs.Marks.{and-true}
-use Rattle.held.specs.Replacing.{starts-unequal}
-use Rattle.held.specs.Remains.{backslash, Narrow, narrow-placeholder}
+use Rattle.held_laws.specs.Marks.{and-true}
+use Rattle.held_laws.specs.Replacing.{starts-unequal}
+use Rattle.held_laws.specs.Remains.{backslash, Narrow, narrow-placeholder}
 
 unfoldable pub Lacks : ℕ → List ℕ → Type 0
 Lacks c [] = Unit {0}

@@ -11,11 +11,11 @@ use native.Mathlib.Omega.{arith}
 use lib.ListN.{length}
 use Rattle.spec.specs.Symbols.{bytes, textMark, romanMark}
 use Rattle.spec.specs.Held.{Taken, takeOut, holdTexts, holdBoth, numbered, numberedRomans}
-use Rattle.held.specs.Marks.{hasMark, count}
-use Rattle.held.specs.WellMade.{unmarked-count}
-use Rattle.held.specs.TakeOut.{Turns, turns}
-use Rattle.held.specs.Holding.{taken-other}
-use Rattle.held.specs.Limits.{taken-length, taken-long}
+use Rattle.held_laws.specs.Marks.{hasMark, count}
+use Rattle.held_laws.specs.WellMade.{unmarked-count}
+use Rattle.held_laws.specs.TakeOut.{Turns, turns}
+use Rattle.held_laws.specs.Holding.{taken-other}
+use Rattle.held_laws.specs.Limits.{taken-length, taken-long}
 use Rattle.placeholders.specs.Placeholders.{texts, both, placed, orNext, turned, holdOut}
 use Rattle.placeholders.specs.Finding.{Lacks, Passed}
 use Rattle.placeholders.specs.OneName.{reaches-then, reaches-end, held-turns}

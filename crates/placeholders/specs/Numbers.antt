@@ -18,11 +18,11 @@ use borrow.Author.Tests.{eqb-true, eqb-false, ne-eqb}
 use Rattle.spec.specs.Symbols.{starts, textMark, romanMark}
 use Rattle.spec.specs.Closing.{Side, opens, closes, neither, side, sideOf, close}
 use Rattle.spec.specs.Held.{placeholder, marks, numbered, numberedRomans}
-use Rattle.held.specs.Marks.{count}
-use Rattle.held.specs.Replacing.{starts-split, starts-unequal}
-use Rattle.held.specs.Remains.{Narrow, narrow-placeholder}
-use Rattle.held.specs.InFull.{returned}
-use Rattle.held.specs.TakeOut.{theText, isSome}
+use Rattle.held_laws.specs.Marks.{count}
+use Rattle.held_laws.specs.Replacing.{starts-split, starts-unequal}
+use Rattle.held_laws.specs.Remains.{Narrow, narrow-placeholder}
+use Rattle.held_laws.specs.InFull.{returned}
+use Rattle.held_laws.specs.TakeOut.{theText, isSome}
 use Rattle.placeholders.specs.Finding.{Lacks}
 
 abbrev pub numberedFrom : ℕ → List ℕ → List ℕ

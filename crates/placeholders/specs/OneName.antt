@@ -15,10 +15,10 @@ use Rattle.spec.specs.Symbols.{until, starts, find, textMark}
 use Rattle.spec.specs.Laws.Symbols.{find-here}
 use Rattle.spec.specs.Closing.{findMatchingBrace}
 use Rattle.spec.specs.Held.{Taken, placeholder}
-use Rattle.held.specs.Marks.{isMark, hasMark, or-false, not-text-mark, has-mark-append}
-use Rattle.held.specs.Remains.{backslash}
-use Rattle.held.specs.InFull.{returned}
-use Rattle.held.specs.TakeOut.{until-front, Turns, ended, unclosed, passing, holding}
+use Rattle.held_laws.specs.Marks.{isMark, hasMark, or-false, not-text-mark, has-mark-append}
+use Rattle.held_laws.specs.Remains.{backslash}
+use Rattle.held_laws.specs.InFull.{returned}
+use Rattle.held_laws.specs.TakeOut.{until-front, Turns, ended, unclosed, passing, holding}
 use Rattle.placeholders.specs.Placeholders.{Placed, placed, closed, foundAt, firstBlock, orNext, firstOf, heldOne, turned}
 use Rattle.placeholders.specs.Finding.{Lacks, Passed, passed-find, passed-more, passed-placeholder}
 

@@ -14,11 +14,11 @@ use Rattle.spec.specs.Symbols.{bytes, starts, find, textMark, romanMark}
 use Rattle.spec.specs.Closing.{findMatchingBrace}
 use Rattle.spec.specs.Laws.Symbols.{starts-long}
 use Rattle.spec.specs.Held.{Taken, leaving, taking, placeholder, marks, numbered, numberedRomans}
-use Rattle.held.specs.Marks.{count}
-use Rattle.held.specs.Replacing.{starts-split}
-use Rattle.held.specs.WellMade.{count-append, marks-count}
-use Rattle.held.specs.InFull.{returned}
-use Rattle.held.specs.TakeOut.{Turns, ended, unclosed, passing, holding}
+use Rattle.held_laws.specs.Marks.{count}
+use Rattle.held_laws.specs.Replacing.{starts-split}
+use Rattle.held_laws.specs.WellMade.{count-append, marks-count}
+use Rattle.held_laws.specs.InFull.{returned}
+use Rattle.held_laws.specs.TakeOut.{Turns, ended, unclosed, passing, holding}
 use Rattle.placeholders.specs.Placeholders.{both, Placed, placed, firstBlock, orNext, firstOf, heldOne}
 use Rattle.placeholders.specs.Finding.{Lacks, Passed, passed-more, passed-placeholder}
 use Rattle.placeholders.specs.OneName.{block-missing, block-unclosed, block-found, Reaches, reaches-now, reaches-one}

@@ -17,9 +17,9 @@ use Rattle.spec.specs.Symbols.{bytes, starts, find, textMark}
 use Rattle.spec.specs.Laws.Symbols.{find-here, find-past, starts-long}
 use Rattle.spec.specs.Closing.{Side, opens, closes, neither, side, close, findMatchingBrace}
 use Rattle.spec.specs.Held.{placeholder}
-use Rattle.held.specs.Replacing.{starts-split, starts-unequal}
-use Rattle.held.specs.Remains.{backslash, narrow-placeholder}
-use Rattle.held.specs.TakeOut.{theText, isSome}
+use Rattle.held_laws.specs.Replacing.{starts-split, starts-unequal}
+use Rattle.held_laws.specs.Remains.{backslash, narrow-placeholder}
+use Rattle.held_laws.specs.TakeOut.{theText, isSome}
 use Rattle.placeholders.specs.Placeholders.{Block, closed, foundAt, firstBlock}
 use Rattle.placeholders.specs.Finding.{Lacks, starts-stop, passed-find, narrow-passed}
 use Rattle.placeholders.specs.Numbers.{brace, step, placeholder-close}

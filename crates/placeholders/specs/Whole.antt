@@ -18,11 +18,11 @@ use Rattle.spec.specs.Table.{Definition}
 use Rattle.spec.specs.Definitions.{applyDefinition, applyDefinitions, applyDefinitionsOutsideText}
 use Rattle.spec.specs.Rows.{Row, greekLetters, wordMappings}
 use Rattle.spec.specs.Words.{greek, wordOrLiteral, heldRows, convertWords}
-use Rattle.held.specs.Marks.{hasMark, fill, and-true}
-use Rattle.held.specs.Broken.{marked}
-use Rattle.held.specs.Numbering.{numbers, numbered-fill, not-both}
-use Rattle.held.specs.Rewriting.{Between, marksOf, sweep-marks}
-use Rattle.held.specs.Instances.{EverySound, defined-between, fineRow, fineRows, greek-fine, words-fine, greek-between, word-between, passed-one, stage-made}
+use Rattle.held_laws.specs.Marks.{hasMark, fill, and-true}
+use Rattle.held_laws.specs.Broken.{marked}
+use Rattle.held_laws.specs.Numbering.{numbers, numbered-fill, not-both}
+use Rattle.held_laws.specs.Rewriting.{Between, marksOf, sweep-marks}
+use Rattle.held_laws.specs.Instances.{EverySound, defined-between, fineRow, fineRows, greek-fine, words-fine, greek-between, word-between, passed-one, stage-made}
 use Rattle.placeholders.specs.Placeholders.{texts, both, Placed, placed, holdOut, definedAll, rustDefinitions, rewrittenAll, rustWords}
 use Rattle.placeholders.specs.Numbers.{romans-plain, romans-text, romans-none}
 use Rattle.placeholders.specs.Literal.{texts-held, both-held}

@@ -22,7 +22,7 @@ use Rattle.text.specs.declared.Progress.{Progress}
 use Rattle.text.specs.declared.Progress.the-variants.{Text, Refused}
 use Rattle.symbols.specs.Parts.{part}
 use Rattle.blocks.specs.Outside.{Unmarked}
-use Rattle.held.specs.Marks.{isMark, hasMark}
+use Rattle.held_laws.specs.Marks.{isMark, hasMark}
 use Rattle.stage_laws.specs.Each.{Each, done, more}
 use Rattle.stage_laws.specs.Calls.{unmarked}
 use Rattle.stage_laws.specs.Stages.{Passes, pass, stop, beforeDefinitions, beforeWords}

@@ -9,7 +9,7 @@ use Prim.Native.Nat.{ℕ}
 use Rattle.spec.specs.Result.{Result, passed}
 use Rattle.spec.specs.Table.{definitions}
 use Rattle.spec.specs.Pipeline.{definitionsOr}
-use Rattle.held.specs.Marks.{hasMark}
+use Rattle.held_laws.specs.Marks.{hasMark}
 
 pub record Bare (r : Result (List ℕ)) : Type 0 where
   pub unmarked : (s : List ℕ) → r ≡ passed s → hasMark s ≡ false

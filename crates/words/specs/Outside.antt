@@ -16,9 +16,9 @@ use Rattle.spec.specs.Words.{heldRows, convertWords}
 use Rattle.spec.specs.Laws.Booleans.{and-left, and-right}
 use Rattle.text.specs.Stage.{staged-then}
 use Rattle.text.specs.declared.Progress.{Progress}
-use Rattle.held.specs.WellMade.{WellMade}
-use Rattle.held.specs.Rewriting.{Between, sweep-made}
-use Rattle.held.specs.Instances.{fineRow, fineRows, greek-fine, words-fine, greek-between, word-between, rows-made, refused-not}
+use Rattle.held_laws.specs.WellMade.{WellMade}
+use Rattle.held_laws.specs.Rewriting.{Between, sweep-made}
+use Rattle.held_laws.specs.Instances.{fineRow, fineRows, greek-fine, words-fine, greek-between, word-between, rows-made, refused-not}
 use Rattle.entries.specs.Sized.{sized, StagedWithin}
 use Rattle.blocks.specs.Outside.{Extra}
 use Rattle.blocks.specs.Carried.{held-sized}

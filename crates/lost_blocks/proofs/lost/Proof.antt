@@ -3,8 +3,8 @@ use mathlib.Core.Path.{sym, ap, _∙_}
 use native.Mathlib.Omega.{arith}
 use lib.ListN.{length-take, length-drop}
 use borrow.Author.Needs.{needs}
-use Rattle.held.specs.Marks.{order, hasMark}
-use Rattle.held.specs.Noted.{noted}
+use Rattle.held_laws.specs.Marks.{order, hasMark}
+use Rattle.held_laws.specs.Noted.{noted}
 use Rattle.symbols.specs.Parts.{whole-part}
 use Rattle.held.specs.Filing.{blocksAt}
 use Rattle.lost_blocks.proofs.lost.Statement.{statement}

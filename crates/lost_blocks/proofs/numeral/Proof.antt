@@ -1,6 +1,6 @@
 -- `lost_blocks::numeral` meets its contract. Assumes nothing.
 use mathlib.Core.Path.{sym, ap, _∙_}
-use Rattle.held.specs.Marks.{isMark}
+use Rattle.held_laws.specs.Marks.{isMark}
 use Rattle.lost_blocks.specs.Reading.{numeral-none, numeral-plain, numeral-zero, numeral-wasted}
 use Rattle.lost_blocks.proofs.numeral.Statement.{statement}
 use Rattle.lost_blocks.proofs.numeral.Tie as tie

@@ -2,7 +2,7 @@
 use mathlib.Core.Path.{sym, ap, _∙_}
 use borrow.Author.Needs.{needs}
 use lib.Dec.{leb}
-use Rattle.held.specs.Marks.{first, order}
+use Rattle.held_laws.specs.Marks.{first, order}
 use Rattle.lost_blocks.specs.Reading.{takes-none, takes-large, takes-small}
 use Rattle.lost_blocks.proofs.takes.Statement.{statement}
 use Rattle.lost_blocks.proofs.takes.Tie as tie

@@ -10,9 +10,9 @@ use native.Mathlib.Nat.{not-suc-le-zero}
 use native.Mathlib.Omega.{arith}
 use lib.Dec.{eqb, leb, ltb}
 use borrow.Author.Tests.{eqb-true, eqb-false}
-use Rattle.held.specs.Decimal.{decimal}
-use Rattle.held.specs.Marks.{isMark, hasMark, first, rest, or-false, not-text-mark}
-use Rattle.held.specs.Replacing.{Unmarked}
+use Rattle.held_laws.specs.Decimal.{decimal}
+use Rattle.held_laws.specs.Marks.{isMark, hasMark, first, rest, or-false, not-text-mark}
+use Rattle.held_laws.specs.Replacing.{Unmarked}
 
 -- the digits stand here, and a mark behind them
 unfoldable pub typed : List ℕ → List ℕ → Bool

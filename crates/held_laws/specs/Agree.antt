@@ -12,12 +12,12 @@ use lib.Dec.{ltb, eqb}
 use lib.ListN.{length}
 use borrow.Author.Tests.{eqb-true, ltb-true, lt-ltb, le-ltb}
 use Rattle.spec.specs.Held.{placeholder, restored}
-use Rattle.held.specs.Marks.{isMark, hasMark, first, rest, fill, numbersBelow, occurs, blockAt, or-true, not-text-mark}
-use Rattle.held.specs.Replacing.{Unmarked, put}
-use Rattle.held.specs.Broken.{marked, broken, broken-put, broken-marked}
-use Rattle.held.specs.Remains.{Remains, remains-put, remains-marked, remains-behind}
-use Rattle.held.specs.Losing.{lostAt, lostBelow, nestedBelow, free-below}
-use Rattle.held.specs.Round.{Good, Round, whole, broke, stage, round}
+use Rattle.held_laws.specs.Marks.{isMark, hasMark, first, rest, fill, numbersBelow, occurs, blockAt, or-true, not-text-mark}
+use Rattle.held_laws.specs.Replacing.{Unmarked, put}
+use Rattle.held_laws.specs.Broken.{marked, broken, broken-put, broken-marked}
+use Rattle.held_laws.specs.Remains.{Remains, remains-put, remains-marked, remains-behind}
+use Rattle.held_laws.specs.Losing.{lostAt, lostBelow, nestedBelow, free-below}
+use Rattle.held_laws.specs.Round.{Good, Round, whole, broke, stage, round}
 
 unfoldable pub after : (ℕ → List ℕ) → ℕ → List ℕ → List ℕ
 after block zero s = s

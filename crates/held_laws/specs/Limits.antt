@@ -16,13 +16,13 @@ use Rattle.spec.specs.Symbols.{bytes, starts, textMark, romanMark}
 use Rattle.spec.specs.Laws.Symbols.{starts-long}
 use Rattle.spec.specs.Closing.{findMatchingBrace}
 use Rattle.spec.specs.Held.{Taken, takeOut, holdTexts, holdBoth, filled, inFull}
-use Rattle.held.specs.Marks.{hasMark, count, joined}
-use Rattle.held.specs.Replacing.{starts-split}
-use Rattle.held.specs.WellMade.{count-append, joined-append, unmarked-count}
-use Rattle.held.specs.TakeOut.{close-behind, Turns, ended, unclosed, passing, holding, turns}
-use Rattle.held.specs.Holding.{taken-other, taken-own, taken-within}
-use Rattle.held.specs.Numbering.{not-both}
-use Rattle.held.specs.InFull.{filled-none}
+use Rattle.held_laws.specs.Marks.{hasMark, count, joined}
+use Rattle.held_laws.specs.Replacing.{starts-split}
+use Rattle.held_laws.specs.WellMade.{count-append, joined-append, unmarked-count}
+use Rattle.held_laws.specs.TakeOut.{close-behind, Turns, ended, unclosed, passing, holding, turns}
+use Rattle.held_laws.specs.Holding.{taken-other, taken-own, taken-within}
+use Rattle.held_laws.specs.Numbering.{not-both}
+use Rattle.held_laws.specs.InFull.{filled-none}
 
 -- ---- counts and lengths
 count-most : (c : ℕ) (s : List ℕ) → count c s ≤ length s

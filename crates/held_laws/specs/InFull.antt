@@ -14,9 +14,9 @@ use lib.ListN.{length, length-append}
 use borrow.Author.Tests.{eqb-true}
 use Rattle.spec.specs.Symbols.{textMark, romanMark}
 use Rattle.spec.specs.Held.{Held, filled, inFull}
-use Rattle.held.specs.Marks.{isMark, hasMark, count, first, rest, order, fill, blockAt, joined, or-false, not-text-mark, has-mark-append}
-use Rattle.held.specs.WellMade.{WellMade, count-append, block-append, block-front}
-use Rattle.held.specs.Numbering.{not-both}
+use Rattle.held_laws.specs.Marks.{isMark, hasMark, count, first, rest, order, fill, blockAt, joined, or-false, not-text-mark, has-mark-append}
+use Rattle.held_laws.specs.WellMade.{WellMade, count-append, block-append, block-front}
+use Rattle.held_laws.specs.Numbering.{not-both}
 
 unfoldable pub returned : ℕ → (ℕ → List ℕ) → ℕ → List ℕ → List ℕ
 returned mark block k [] = []

@@ -9,12 +9,12 @@ use native.Mathlib.Omega.{arith}
 use Rattle.spec.specs.Symbols.{bytes, starts, contains, textMark, romanMark}
 use Rattle.spec.specs.Result.{passed, refused}
 use Rattle.spec.specs.Held.{Held, Taken, leaving, takeOut, holdTexts, holdBoth, filled, inFull, putBack}
-use Rattle.held.specs.Marks.{isMark, hasMark, count, joined, or-false}
-use Rattle.held.specs.Noted.{noted}
-use Rattle.held.specs.WellMade.{WellMade, lost, count-unmarked}
-use Rattle.held.specs.InFull.{filled-none}
-use Rattle.held.specs.PutBack.{put-back-lost}
-use Rattle.held.specs.TakeOut.{turn-passing}
+use Rattle.held_laws.specs.Marks.{isMark, hasMark, count, joined, or-false}
+use Rattle.held_laws.specs.Noted.{noted}
+use Rattle.held_laws.specs.WellMade.{WellMade, lost, count-unmarked}
+use Rattle.held_laws.specs.InFull.{filled-none}
+use Rattle.held_laws.specs.PutBack.{put-back-lost}
+use Rattle.held_laws.specs.TakeOut.{turn-passing}
 
 -- ---- holding out
 taken-none : (name : List ℕ) (mark : ℕ) (s : List ℕ) → contains name s ≡ false → takeOut name mark 0 s ≡ record { left = s; blocks = [] }

@@ -10,15 +10,15 @@ use native.Mathlib.Omega.{arith}
 use lib.ListN.{length, length-append}
 use Rattle.spec.specs.Result.{Result, passed, refused}
 use Rattle.spec.specs.Held.{Held, placeholder, numbered, numberedRomans, rustPutBack, putBack, inFull}
-use Rattle.held.specs.Marks.{hasMark, order, fill, numbersBelow, occurs, blockAt, joined, or-false, has-mark-append}
-use Rattle.held.specs.Broken.{marked}
-use Rattle.held.specs.Losing.{lostBelow, nestedBelow}
-use Rattle.held.specs.Agree.{after, restored-after, Agrees}
-use Rattle.held.specs.Stored.{Fair, put-back-agrees}
-use Rattle.held.specs.Noted.{noted, lost-noted, nested-joined}
-use Rattle.held.specs.WellMade.{WellMade, lost, joined-append, plain-joined, marked-range}
-use Rattle.held.specs.Numbering.{numbers, numbered-fill, numbers-below, roman-occurs, numbers-plain, AllFair, fair-length, fair-at, fair-texts, fair-romans}
-use Rattle.held.specs.InFull.{in-full-fill}
+use Rattle.held_laws.specs.Marks.{hasMark, order, fill, numbersBelow, occurs, blockAt, joined, or-false, has-mark-append}
+use Rattle.held_laws.specs.Broken.{marked}
+use Rattle.held_laws.specs.Losing.{lostBelow, nestedBelow}
+use Rattle.held_laws.specs.Agree.{after, restored-after, Agrees}
+use Rattle.held_laws.specs.Stored.{Fair, put-back-agrees}
+use Rattle.held_laws.specs.Noted.{noted, lost-noted, nested-joined}
+use Rattle.held_laws.specs.WellMade.{WellMade, lost, joined-append, plain-joined, marked-range}
+use Rattle.held_laws.specs.Numbering.{numbers, numbered-fill, numbers-below, roman-occurs, numbers-plain, AllFair, fair-length, fair-at, fair-texts, fair-romans}
+use Rattle.held_laws.specs.InFull.{in-full-fill}
 
 module _ {h : Held} (made : WellMade h) where
   abbrev first : ℕ

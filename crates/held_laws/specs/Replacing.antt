@@ -15,8 +15,8 @@ use Rattle.spec.specs.Symbols.{starts, textMark}
 use Rattle.spec.specs.Sweep.{Rule, sweep, replacing, replace}
 use Rattle.spec.specs.Laws.Symbols.{starts-other}
 use Rattle.spec.specs.Held.{placeholder}
-use Rattle.held.specs.Decimal.{decimal, Digit, Digits, decimal-digits, decimal-one}
-use Rattle.held.specs.Marks.{and-true}
+use Rattle.held_laws.specs.Decimal.{decimal, Digit, Digits, decimal-digits, decimal-one}
+use Rattle.held_laws.specs.Marks.{and-true}
 
 -- ---- starts
 pub starts-self : (x s : List ℕ) → starts x (x ++ s) ≡ true

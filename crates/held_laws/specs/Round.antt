@@ -13,12 +13,12 @@ use lib.ListN.{length, drop}
 use borrow.Author.Tests.{eqb-true, eqb-false, ltb-true, ltb-false, lt-ltb, le-ltb, le-leb, lt-leb}
 use Rattle.spec.specs.Symbols.{starts, textMark}
 use Rattle.spec.specs.Held.{placeholder}
-use Rattle.held.specs.Decimal.{decimal, Digits, decimal-digits}
-use Rattle.held.specs.Marks.{isMark, first, rest, fill, not-text-mark, mark-small, and-false}
-use Rattle.held.specs.Replacing.{Unmarked, starts-unequal, digit-not, numberMark, here-too, put, put-none, put-other, put-mark, put-met, put-over, put-past, put-taken}
-use Rattle.held.specs.Broken.{odd, broken, broken-behind, broken-digits, placeholder-even}
-use Rattle.held.specs.Remains.{backslash}
-use Rattle.held.specs.Losing.{typed, taken, lostAt}
+use Rattle.held_laws.specs.Decimal.{decimal, Digits, decimal-digits}
+use Rattle.held_laws.specs.Marks.{isMark, first, rest, fill, not-text-mark, mark-small, and-false}
+use Rattle.held_laws.specs.Replacing.{Unmarked, starts-unequal, digit-not, numberMark, here-too, put, put-none, put-other, put-mark, put-met, put-over, put-past, put-taken}
+use Rattle.held_laws.specs.Broken.{odd, broken, broken-behind, broken-digits, placeholder-even}
+use Rattle.held_laws.specs.Remains.{backslash}
+use Rattle.held_laws.specs.Losing.{typed, taken, lostAt}
 
 -- a block begins with a backslash, and its marks are those of whole placeholders
 pub record Good (block : List ℕ) : Type 0 where

@@ -19,9 +19,9 @@ use Rattle.spec.specs.Table.{Definition, faultyName, faultyLatex, faulty, named
 use Rattle.spec.specs.Definitions.{defined, applyDefinition, applyDefinitions}
 use Rattle.spec.specs.Rows.{Row, greekLetters, wordMappings}
 use Rattle.spec.specs.Words.{greek, word, literal, wordOrLiteral, heldRows}
-use Rattle.held.specs.Marks.{isMark, hasMark, or-false, and-true, and-false}
-use Rattle.held.specs.WellMade.{WellMade}
-use Rattle.held.specs.Rewriting.{Name, Between, sweep-made}
+use Rattle.held_laws.specs.Marks.{isMark, hasMark, or-false, and-true, and-false}
+use Rattle.held_laws.specs.WellMade.{WellMade}
+use Rattle.held_laws.specs.Rewriting.{Name, Between, sweep-made}
 
 -- ---- classes of symbols
 -- a symbol that is no mark; x is textMark or romanMark else

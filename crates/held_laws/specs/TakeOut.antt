@@ -15,7 +15,7 @@ use lib.Seq.{take-append-seam, drop-append-seam}
 use Rattle.spec.specs.Symbols.{until, starts}
 use Rattle.spec.specs.Closing.{Side, opens, closes, neither, side, close, findMatchingBrace}
 use Rattle.spec.specs.Held.{Taken, leaving, taking, takeOut}
-use Rattle.held.specs.Replacing.{starts-split}
+use Rattle.held_laws.specs.Replacing.{starts-split}
 
 -- ---- what is behind a closer
 abbrev pub theText : Option (List ℕ) → List ℕ

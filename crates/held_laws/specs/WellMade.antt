@@ -12,9 +12,9 @@ use lib.Dec.{eqb}
 use lib.ListN.{length, drop}
 use Rattle.spec.specs.Symbols.{textMark, romanMark}
 use Rattle.spec.specs.Held.{Held, marks}
-use Rattle.held.specs.Marks.{isMark, hasMark, count, order, blockAt, joined, or-false, has-mark-append}
-use Rattle.held.specs.Remains.{backslash}
-use Rattle.held.specs.Noted.{noted}
+use Rattle.held_laws.specs.Marks.{isMark, hasMark, count, order, blockAt, joined, or-false, has-mark-append}
+use Rattle.held_laws.specs.Remains.{backslash}
+use Rattle.held_laws.specs.Noted.{noted}
 
 unfoldable pub Every : (List ℕ → Type 0) → List (List ℕ) → Type 0
 Every P [] = Unit {0}

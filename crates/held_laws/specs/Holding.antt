@@ -10,10 +10,10 @@ use lib.ListN.{length, drop}
 use borrow.Author.Tests.{eq-eqb, eqb-true}
 use Rattle.spec.specs.Symbols.{bytes, starts, textMark, romanMark}
 use Rattle.spec.specs.Held.{Taken, takeOut, holdTexts, holdBoth}
-use Rattle.held.specs.Marks.{hasMark, count, joined, or-false, and-true, has-mark-append}
-use Rattle.held.specs.Remains.{backslash}
-use Rattle.held.specs.WellMade.{Every, Plain, Enclosing, WellMade, count-append, unmarked-count, count-unmarked}
-use Rattle.held.specs.TakeOut.{Turns, ended, unclosed, passing, holding, turns}
+use Rattle.held_laws.specs.Marks.{hasMark, count, joined, or-false, and-true, has-mark-append}
+use Rattle.held_laws.specs.Remains.{backslash}
+use Rattle.held_laws.specs.WellMade.{Every, Plain, Enclosing, WellMade, count-append, unmarked-count, count-unmarked}
+use Rattle.held_laws.specs.TakeOut.{Turns, ended, unclosed, passing, holding, turns}
 
 -- a symbol more on both sides
 more-left : (t : Bool) (a b c : ℕ) → a + b ≡ c → cond t (suc a) a + b ≡ cond t (suc c) c

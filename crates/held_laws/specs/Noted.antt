@@ -12,9 +12,9 @@ use native.Mathlib.Omega.{arith}
 use lib.Dec.{leb, ltb, eqb}
 use lib.ListN.{length}
 use borrow.Author.Tests.{eqb-true, eqb-false, ltb-true, ltb-false, lt-ltb, le-ltb}
-use Rattle.held.specs.Marks.{isMark, hasMark, first, rest, numbersBelow, blockAt, joined, and-false, has-mark-append}
-use Rattle.held.specs.Losing.{taken, lostAt, lostBelow, nestedBelow}
-use Rattle.held.specs.Numeral.{numeral, reads, read-typed}
+use Rattle.held_laws.specs.Marks.{isMark, hasMark, first, rest, numbersBelow, blockAt, joined, and-false, has-mark-append}
+use Rattle.held_laws.specs.Losing.{taken, lostAt, lostBelow, nestedBelow}
+use Rattle.held_laws.specs.Numeral.{numeral, reads, read-typed}
 
 abbrev pub takes : ℕ → ℕ → Option ℕ → Bool
 takes k j none = false

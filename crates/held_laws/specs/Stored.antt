@@ -11,14 +11,14 @@ use lib.ListN.{drop}
 use borrow.Author.Tests.{ltb-true}
 use Rattle.spec.specs.Symbols.{textMark}
 use Rattle.spec.specs.Held.{placeholder}
-use Rattle.held.specs.Decimal.{decimal, decimal-digits, decimal-one}
-use Rattle.held.specs.Marks.{isMark, hasMark, first, rest, fill, numbersBelow, occurs, or-false, not-text-mark, fill-unmarked}
-use Rattle.held.specs.Replacing.{Unmarked, here-too, same-digits}
-use Rattle.held.specs.Broken.{odd, odd-append, placeholder-even}
-use Rattle.held.specs.Remains.{backslash, Remains}
-use Rattle.held.specs.Losing.{lostBelow, nestedBelow, none-below}
-use Rattle.held.specs.Round.{Good}
-use Rattle.held.specs.Agree.{after, fill-below, Nested, Agrees, agree}
+use Rattle.held_laws.specs.Decimal.{decimal, decimal-digits, decimal-one}
+use Rattle.held_laws.specs.Marks.{isMark, hasMark, first, rest, fill, numbersBelow, occurs, or-false, not-text-mark, fill-unmarked}
+use Rattle.held_laws.specs.Replacing.{Unmarked, here-too, same-digits}
+use Rattle.held_laws.specs.Broken.{odd, odd-append, placeholder-even}
+use Rattle.held_laws.specs.Remains.{backslash, Remains}
+use Rattle.held_laws.specs.Losing.{lostBelow, nestedBelow, none-below}
+use Rattle.held_laws.specs.Round.{Good}
+use Rattle.held_laws.specs.Agree.{after, fill-below, Nested, Agrees, agree}
 
 -- block k: its marks have the numbers js, which are below k
 pub record Fair (k : ℕ) (stored rust : List ℕ) : Type 0 where

@@ -13,10 +13,10 @@ use lib.Dec.{leb, eqb}
 use lib.ListN.{getD}
 use borrow.Author.Tests.{eq-eqb, ne-eqb, eqb-true, eqb-false, le-leb, leb-true, not-false}
 use Rattle.spec.specs.Symbols.{is, digit, textMark, romanMark}
-use Rattle.held.specs.Decimal.{decimal, Digit, Digits, decimal-digits}
-use Rattle.held.specs.Marks.{isMark, and-true}
-use Rattle.held.specs.Losing.{typed}
-use Rattle.held.specs.Neat.{value, Neat, decimal-value, decimal-neat, neat-decimal}
+use Rattle.held_laws.specs.Decimal.{decimal, Digit, Digits, decimal-digits}
+use Rattle.held_laws.specs.Marks.{isMark, and-true}
+use Rattle.held_laws.specs.Losing.{typed}
+use Rattle.held_laws.specs.Neat.{value, Neat, decimal-value, decimal-neat, neat-decimal}
 
 unfoldable pub horner : ℕ → List ℕ → Option ℕ
 horner v [] = none

@@ -16,9 +16,9 @@ use borrow.Author.Tests.{eqb-true}
 use Rattle.spec.specs.Symbols.{digit, head, starts, textMark, romanMark}
 use Rattle.spec.specs.Sweep.{Rule, kept, taken, sweep}
 use Rattle.spec.specs.Held.{Held, withText}
-use Rattle.held.specs.Marks.{isMark, hasMark, count, or-false, has-mark-append}
-use Rattle.held.specs.Replacing.{starts-split}
-use Rattle.held.specs.WellMade.{WellMade}
+use Rattle.held_laws.specs.Marks.{isMark, hasMark, count, or-false, has-mark-append}
+use Rattle.held_laws.specs.Replacing.{starts-split}
+use Rattle.held_laws.specs.WellMade.{WellMade}
 
 pub record Name (w : List ℕ) : Type 0 where
   pub start : ℕ

@@ -12,7 +12,7 @@ use lib.Dec.{eqb}
 use borrow.Author.Tests.{eqb-true, eqb-false}
 use Rattle.spec.specs.Symbols.{is}
 use Rattle.spec.specs.Held.{up, counted}
-use Rattle.held.specs.Decimal.{decimal, Digits, worth, up-worth, counted-digits, counted-worth, digits-reverse}
+use Rattle.held_laws.specs.Decimal.{decimal, Digits, worth, up-worth, counted-digits, counted-worth, digits-reverse}
 
 -- ---- the worth of digits, the first digit first
 unfoldable pub value : ℕ → List ℕ → ℕ

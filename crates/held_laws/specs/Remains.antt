@@ -14,9 +14,9 @@ use lib.ListN.{length, drop, length-append}
 use borrow.Author.Tests.{ne-eqb, eqb-true}
 use Rattle.spec.specs.Symbols.{starts, textMark}
 use Rattle.spec.specs.Held.{placeholder}
-use Rattle.held.specs.Decimal.{decimal, Digit, Digits, decimal-digits}
-use Rattle.held.specs.Replacing.{Unmarked, starts-split, starts-unequal, digit-not, numberMark, here-too, placeholder-long, put, put-none, put-not, put-other, put-mark, put-met, put-over, put-taken}
-use Rattle.held.specs.Broken.{marked}
+use Rattle.held_laws.specs.Decimal.{decimal, Digit, Digits, decimal-digits}
+use Rattle.held_laws.specs.Replacing.{Unmarked, starts-split, starts-unequal, digit-not, numberMark, here-too, placeholder-long, put, put-none, put-not, put-other, put-mark, put-met, put-over, put-taken}
+use Rattle.held_laws.specs.Broken.{marked}
 
 abbrev pub backslash : ℕ
 backslash = code "\\"

@@ -14,9 +14,9 @@ use lib.ListN.{length}
 use borrow.Author.Tests.{eqb-true, eqb-false, lt-ltb}
 use Rattle.spec.specs.Symbols.{textMark, romanMark}
 use Rattle.spec.specs.Held.{placeholder, marks, numbered, numberedRomans}
-use Rattle.held.specs.Marks.{isMark, hasMark, count, first, rest, order, fill, numbersBelow, occurs, blockAt, joined, or-false, or-true, has-mark-append, fill-unmarked}
-use Rattle.held.specs.Stored.{Fair}
-use Rattle.held.specs.WellMade.{Every, Plain, Enclosing, count-append, marks-count, unmarked-count}
+use Rattle.held_laws.specs.Marks.{isMark, hasMark, count, first, rest, order, fill, numbersBelow, occurs, blockAt, joined, or-false, or-true, has-mark-append, fill-unmarked}
+use Rattle.held_laws.specs.Stored.{Fair}
+use Rattle.held_laws.specs.WellMade.{Every, Plain, Enclosing, count-append, marks-count, unmarked-count}
 
 unfoldable pub numbers : List (List ℕ) → ℕ → ℕ → List ℕ → List ℕ
 numbers romans t r [] = []

@@ -1,0 +1,1 @@
+// Laws about held blocks: see specs/. There is no code here.
