@@ -11,60 +11,51 @@ use Rattle.blocks.proofs.hold_texts.Tie as tie
 add-end : tie.Need-add-end
 add-end c = let h = placed-fits (c .before .pre .ready) refl in omega arith
 
-sub-contains : tie.Need-sub-contains
-sub-contains c = search needs
-
-part-contains-start : tie.Need-part-contains-start
-part-contains-start c = search needs
-
 part-contains-end : tie.Need-part-contains-end
 part-contains-end c = let h = placed-fits (c .before .before .pre .ready) refl in let l = c .before .before .pre .ready .long in omega arith
 
-slice-aggregate-contains : tie.Need-slice-aggregate-contains
-slice-aggregate-contains c = search needs
-
-contains-requires : tie.Need-contains-requires
-contains-requires c κs = search needs
-
-same-length : tie.Need-same-length
-same-length c = search needs
-
 returns : tie.Need-returns
-returns c = texts-none (c .before .before .before .before .before .before .pre) (sym (c .before .contains .ensures) ∙ not-true _ (c .if1 .taken))
+returns c =
+    let at-start : tie.Start = search in
+    texts-none (at-start .pre) (sym (c .before .contains .ensures) ∙ not-true _ (c .if1 .taken))
 
 sub-to : tie.Need-sub-to
-sub-to c = let h = placed-low (c .before .before .before .before .before .before .pre .ready) refl in omega arith
-
-slice-aggregate-hold-out : tie.Need-slice-aggregate-hold-out
-slice-aggregate-hold-out c = search needs
+sub-to c =
+    let at-start : tie.Start = search in
+    let h = placed-low (at-start .pre .ready) refl in omega arith
 
 hold-out-requires : tie.Need-hold-out-requires
-hold-out-requires c κs = (hold-first (c .before .before .before .before .before .before .before .before .pre), omega arith)
+hold-out-requires c κs =
+    let at-start : tie.Start = search in
+    (hold-first (at-start .pre), omega arith)
 
 sub-t22 : tie.Need-sub-t22
-sub-t22 c = first-extra (c .before .before .before .before .before .before .before .before .before .before .before .before .before .before .pre) (c .before .before .before .before .before .hold-out .ensures)
-
-same-length-2 : tie.Need-same-length-2
-same-length-2 c = search needs
+sub-t22 c =
+    let at-hold-out : tie.After-hold-out = search in
+    let at-start : tie.Start = search in
+    first-extra (at-start .pre) (at-hold-out .hold-out .ensures)
 
 returns-2 : tie.Need-returns-2
-returns-2 c = texts-counted (c .before .before .before .before .before .before .before .before .before .before .before .before .before .before .pre) (c .before .before .before .before .before .hold-out .ensures)
+returns-2 c =
+    let at-hold-out : tie.After-hold-out = search in
+    let at-start : tie.Start = search in
+    texts-counted (at-start .pre) (at-hold-out .hold-out .ensures)
 
 pub hold-texts-spec : {M : Type 1} → statement M
 hold-texts-spec =
     tie.close
     (tie.spec
     add-end
-    sub-contains
-    part-contains-start
+    (λ c. search needs)
+    (λ c. search needs)
     part-contains-end
-    slice-aggregate-contains
-    contains-requires
-    same-length
+    (λ c. search needs)
+    (λ c κs. search needs)
+    (λ c. search needs)
     returns
     sub-to
-    slice-aggregate-hold-out
+    (λ c. search needs)
     hold-out-requires
     sub-t22
-    same-length-2
+    (λ c. search needs)
     returns-2)

@@ -18,9 +18,6 @@ Inv-loop s opener closer tally₀ i₀ tally i =
 abbrev μ-loop : tie.MeasureT-loop
 μ-loop s opener closer tally₀ i₀ tally i = length s - i
 
-new-requires : tie.Need-new-requires Inv-loop μ-loop
-new-requires c κs = search needs
-
 loop-holds : tie.Need-loop-holds Inv-loop μ-loop
 loop-holds c = rw (c .new .ensures) (omega arith, refl, refl, omega arith, omega arith, omega arith, refl)
 
@@ -31,50 +28,38 @@ returns c =
     let left = length-drop (l .loop .i) (a .s .now) in
     record { within = omega arith; left = sym (l .loop .inv .6 ∙ close-deep (a .opener) (a .closer) (l .loop .tally .depth - 1) (drop (l .loop .i) (a .s .now)) (omega arith)) }
 
-shared-slice-read-step : tie.Need-shared-slice-read-step Inv-loop μ-loop
-shared-slice-read-step c = omega arith
-
-step-requires : tie.Need-step-requires Inv-loop μ-loop
-step-requires c κs = omega arith
-
 returns-2 : tie.Need-returns-2 Inv-loop μ-loop
 returns-2 c =
-    let l = c .before .before .before .before .before .before .before in
-    let a = l .before .before .before .args in
-    let inv = l .loop .inv in
-    let i = l .loop .i in
-    let depth = depth-stepped (l .loop .tally) (getD (a .s .now) i 0) (inv .1) (inv .2) (c .before .before .step .ensures) in
+    let at-loop : tie.At-loop Inv-loop μ-loop = search in
+    let a = at-loop .before .before .before .args in
+    let inv = at-loop .loop .inv in
+    let i = at-loop .loop .i in
+    let depth = depth-stepped (at-loop .loop .tally) (getD (a .s .now) i 0) (inv .1) (inv .2) (c .before .before .step .ensures) in
     let zero = sym depth ∙ c .if2 .taken in
     record {
       within = omega arith;
       left =
-          sym (inv .6 ∙ ap (closeFrom (a .opener) (a .closer) (l .loop .tally .depth)) (drop-step (a .s .now) i (omega arith))
-          ∙ close-here (a .opener) (a .closer) (l .loop .tally .depth) (getD (a .s .now) i 0) (drop (i + 1) (a .s .now)) (inv .3) zero);
+          sym (inv .6 ∙ ap (closeFrom (a .opener) (a .closer) (at-loop .loop .tally .depth)) (drop-step (a .s .now) i (omega arith))
+          ∙ close-here (a .opener) (a .closer) (at-loop .loop .tally .depth) (getD (a .s .now) i 0) (drop (i + 1) (a .s .now)) (inv .3) zero);
     }
-
-add-i : tie.Need-add-i Inv-loop μ-loop
-add-i c = omega arith
-
-loop-less : tie.Need-loop-less Inv-loop μ-loop
-loop-less c = omega arith
 
 loop-again : tie.Need-loop-again Inv-loop μ-loop
 loop-again c =
-    let l = c .before .before .before .before .before .before .before in
-    let a = l .before .before .before .args in
-    let inv = l .loop .inv in
-    let i = l .loop .i in
-    let d = l .loop .tally .depth in
+    let at-loop : tie.At-loop Inv-loop μ-loop = search in
+    let a = at-loop .before .before .before .args in
+    let inv = at-loop .loop .inv in
+    let i = at-loop .loop .i in
+    let d = at-loop .loop .tally .depth in
     let x = getD (a .s .now) i 0 in
     let rest = drop (i + 1) (a .s .now) in
     let step = c .before .before .step .ensures in
-    let depth = depth-stepped (l .loop .tally) (getD (a .s .now) i 0) (inv .1) (inv .2) step in
+    let depth = depth-stepped (at-loop .loop .tally) (getD (a .s .now) i 0) (inv .1) (inv .2) step in
     let more = depth-more (a .opener) (a .closer) d x rest (inv .3) in
     let below : d < 8193 = omega arith in
     let deep : 0 < c .before .before .step .result .depth = omega arith in (
       omega arith,
-      opener-kept (l .loop .tally) x (inv .1) (inv .2) step,
-      closer-kept (l .loop .tally) x (inv .1) (inv .2) step,
+      opener-kept (at-loop .loop .tally) x (inv .1) (inv .2) step,
+      closer-kept (at-loop .loop .tally) x (inv .1) (inv .2) step,
       deep,
       omega arith,
       omega arith,
@@ -95,13 +80,13 @@ find-closer-spec =
     (tie.spec
     Inv-loop
     μ-loop
-    new-requires
+    (λ c κs. search needs)
     loop-holds
     returns
-    shared-slice-read-step
-    step-requires
+    (λ c. omega arith)
+    (λ c κs. omega arith)
     returns-2
-    add-i
-    loop-less
+    (λ c. omega arith)
+    (λ c. omega arith)
     loop-again
     returns-3)

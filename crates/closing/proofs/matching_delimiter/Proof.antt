@@ -16,41 +16,29 @@ returns c =
     let a = c .before .before .args in
     record { within = omega arith; left = sym (delimiter-empty (a .opener) (a .closer) (a .s .now) (c .if1 .taken)) }
 
-sub-find-closer : tie.Need-sub-find-closer
-sub-find-closer c = search needs
-
-part-find-closer-start : tie.Need-part-find-closer-start
-part-find-closer-start c = search needs
-
-part-find-closer-end : tie.Need-part-find-closer-end
-part-find-closer-end c = search needs
-
 find-closer-requires : tie.Need-find-closer-requires
 find-closer-requires c κs = simp (length-take, length-drop) (omega arith)
 
-enum-known-k : tie.Need-enum-known-k
-enum-known-k c = search needs
-
-enum-told : tie.Need-enum-told
-enum-told c = search needs
-
 returns-2 : tie.Need-returns-2
 returns-2 c =
-    let a = c .before .before .before .before .before .before .args in
+    let at-start : tie.Start = search in
+    let a = at-start .args in
     let found = closes-rest (a .s .now) 1 (close (a .opener) (a .closer) 0) (c .before .before .find-closer .ensures) in
     record { within = omega arith; left = sym (sym (delimiter-past (a .opener) (a .closer) (a .s .now)) ∙ closes-nothing found (c .enum-told .given .1)) }
 
 closer-found :
     (c : tie.After-known-told)
-    → (let a = c .before .before .before .before .before .before .before .args in
+    → (let at-start : tie.Start = search in let a = at-start .args in
     Closes (drop 1 (a .s .now)) (c .before .before .before .find-closer .result) (close (a .opener) (a .closer) 0 (drop 1 (a .s .now))))
 closer-found c =
-    let a = c .before .before .before .before .before .before .before .args in
+    let at-start : tie.Start = search in
+    let a = at-start .args in
     closes-rest (a .s .now) 1 (close (a .opener) (a .closer) 0) (c .before .before .before .find-closer .ensures)
 
-closer-within : (c : tie.After-known-told) → 1 + c .before .k .given .0 .0 < length (c .before .before .before .before .before .before .before .args .s .now)
+closer-within : (c : tie.After-known-told) → (let at-start : tie.Start = search in 1 + c .before .k .given .0 .0 < length (at-start .args .s .now))
 closer-within c =
-    let s = c .before .before .before .before .before .before .before .args .s .now in
+    let at-start : tie.Start = search in
+    let s = at-start .args .s .now in
     let w = closes-within (closer-found c) (c .before .k .given .1) in
     let d = length-drop 1 s in
     omega arith
@@ -60,7 +48,8 @@ add-t5 c = let w = closer-within c in omega arith
 
 returns-3 : tie.Need-returns-3
 returns-3 c =
-    let a = c .before .before .before .before .before .before .before .args in
+    let at-start : tie.Start = search in
+    let a = at-start .args in
     let k = c .before .k .given .0 .0 in
     let next : 1 + k ≡ k + 1 = omega arith in
     let closes = closes-later {s = a .s .now} 1 (omega arith) (closer-found c) (c .before .k .given .1) in
@@ -71,12 +60,12 @@ matching-delimiter-spec =
     tie.close
     (tie.spec
     returns
-    sub-find-closer
-    part-find-closer-start
-    part-find-closer-end
+    (λ c. search needs)
+    (λ c. search needs)
+    (λ c. search needs)
     find-closer-requires
-    enum-known-k
-    enum-told
+    (λ c. search needs)
+    (λ c. search needs)
     returns-2
     add-t5
     returns-3)

@@ -17,50 +17,35 @@ Inv-loop s balance₀ i₀ balance i =
 abbrev μ-loop : tie.MeasureT-loop
 μ-loop s balance₀ i₀ balance i = length s - i
 
-new-requires : tie.Need-new-requires Inv-loop μ-loop
-new-requires c κs = search needs
-
 loop-holds : tie.Need-loop-holds Inv-loop μ-loop
 loop-holds c =
     let start = c .new .ensures in
     (omega arith, omega arith, rw (start .0, start .1))
 
-shared-slice-read-b : tie.Need-shared-slice-read-b Inv-loop μ-loop
-shared-slice-read-b c = omega arith
-
 returns : tie.Need-returns Inv-loop μ-loop
 returns c =
-    let l = c .before .before .before .before in
-    let s = l .before .before .before .args .s .now in
-    let i = l .loop .i in
-    let b = l .loop .balance in
+    let at-loop : tie.At-loop Inv-loop μ-loop = search in
+    let s = at-loop .before .before .before .args .s .now in
+    let i = at-loop .loop .i in
+    let b = at-loop .loop .balance in
     record {
       within = omega arith;
       left =
-          sym (l .loop .inv .2 ∙ ap (commaBehind (b .opened) (b .closed)) (drop-step s i (omega arith))
+          sym (at-loop .loop .inv .2 ∙ ap (commaBehind (b .opened) (b .closed)) (drop-step s i (omega arith))
           ∙ comma-here (b .opened) (b .closed) (getD s i 0) (drop (i + 1) s) (c .if1 .taken));
     }
 
-step-requires : tie.Need-step-requires Inv-loop μ-loop
-step-requires c κs = omega arith
-
-add-i : tie.Need-add-i Inv-loop μ-loop
-add-i c = omega arith
-
-loop-less : tie.Need-loop-less Inv-loop μ-loop
-loop-less c = omega arith
-
 loop-again : tie.Need-loop-again Inv-loop μ-loop
 loop-again c =
-    let l = c .before .before .before .before .before in
-    let s = l .before .before .before .args .s .now in
-    let i = l .loop .i in
-    let b = l .loop .balance in
+    let at-loop : tie.At-loop Inv-loop μ-loop = search in
+    let s = at-loop .before .before .before .args .s .now in
+    let i = at-loop .loop .i in
+    let b = at-loop .loop .balance in
     let more = balanced-more b (anySide (getD s i 0)) in
     let same = ap (λ k. k .opened + k .closed) (c .step .ensures) in (
       omega arith,
       omega arith,
-      l .loop .inv .2 ∙ ap (commaBehind (b .opened) (b .closed)) (drop-step s i (omega arith))
+      at-loop .loop .inv .2 ∙ ap (commaBehind (b .opened) (b .closed)) (drop-step s i (omega arith))
           ∙ comma-past (b .opened) (b .closed) (getD s i 0) (drop (i + 1) s) (c .before .if1 .left) (c .step .ensures),
     )
 
@@ -75,12 +60,12 @@ find-comma-in-args-spec =
     (tie.spec
     Inv-loop
     μ-loop
-    new-requires
+    (λ c κs. search needs)
     loop-holds
-    shared-slice-read-b
+    (λ c. omega arith)
     returns
-    step-requires
-    add-i
-    loop-less
+    (λ c κs. omega arith)
+    (λ c. omega arith)
+    (λ c. omega arith)
     loop-again
     returns-2)

@@ -20,53 +20,48 @@ Inv-loop work₀ extra table done₀ cursor₀ work done cursor =
 abbrev μ-loop : tie.MeasureT-loop
 μ-loop work₀ extra table done₀ cursor₀ work done cursor = length (remaining table cursor)
 
-start-requires : tie.Need-start-requires Inv-loop μ-loop
-start-requires c κs = search needs
-
 loop-holds : tie.Need-loop-holds Inv-loop μ-loop
 loop-holds c =
     let s = c .before .before .before in
     (refl, λ ds e. left-none (s .args .table .now) (c .start .result) ds (s .args .extra) (c .start .ensures) e (s .pre .0) (s .pre .1 .0))
-
-next-requires : tie.Need-next-requires Inv-loop μ-loop
-next-requires c κs = search needs
-
-enum-known-found : tie.Need-enum-known-found Inv-loop μ-loop
-enum-known-found c = search needs
-
-enum-told : tie.Need-enum-told Inv-loop μ-loop
-enum-told c = search needs
 
 same-length : tie.Need-same-length Inv-loop μ-loop
 same-length c = c .before .before .before .loop .inv .0
 
 returns : tie.Need-returns Inv-loop μ-loop
 returns c =
-    let l = c .before .before .before in
-    let a = c .before .before .before .before .before .before .before .args in
-    λ ds e. remaining-all (l .loop .inv .1 ds e .stages) (left-done (a .table .now) (l .loop .cursor) (a .extra) (steps-done (c .before .before .next .ensures) (c .enum-told .given .1)))
+    let at-loop = c .before .before .before in
+    let at-start : tie.Start Inv-loop μ-loop = search in
+    let a = at-start .args in
+    λ ds e. remaining-all (at-loop .loop .inv .1 ds e .stages) (left-done (a .table .now) (at-loop .loop .cursor) (a .extra) (steps-done (c .before .before .next .ensures) (c .enum-told .given .1)))
 
 apply-definition-requires : tie.Need-apply-definition-requires Inv-loop μ-loop
 apply-definition-requires c κs =
-    let l = c .before .before .before .before .before in
-    let s = c .before .before .before .before .before .before .before .before .before in
-    let step = steps-next (c .before .before .before .before .next .ensures) (c .before .before .found .given .1) in
-    let ds = not-refused (definitions (s .args .table .now)) (s .pre .1 .1) in
-    let left = l .loop .inv .1 (ds .0) (ds .1) in
-    let lies = steps-lies (c .before .before .before .before .next .ensures) (c .before .before .found .given .1) in
-    let short = steps-short (c .before .before .before .before .next .ensures) (c .before .before .found .given .1) in
-    (remaining-ready (left .stages) (s .pre .0), (left .stages .within, next-usable (s .args .table .now) (l .loop .cursor) (c .before .before .found .given .0 .1 .0) (c .before .before .found .given .0 .0) step (left .sound) lies short))
+    let at-next : tie.After-next Inv-loop μ-loop = search in
+    let at-loop : tie.At-loop Inv-loop μ-loop = search in
+    let at-start : tie.Start Inv-loop μ-loop = search in
+    let step = steps-next (at-next .next .ensures) (c .before .before .found .given .1) in
+    let ds = not-refused (definitions (at-start .args .table .now)) (at-start .pre .1 .1) in
+    let left = at-loop .loop .inv .1 (ds .0) (ds .1) in
+    let lies = steps-lies (at-next .next .ensures) (c .before .before .found .given .1) in
+    let short = steps-short (at-next .next .ensures) (c .before .before .found .given .1) in
+    (remaining-ready (left .stages) (at-start .pre .0), (left .stages .within, next-usable (at-start .args .table .now) (at-loop .loop .cursor) (c .before .before .found .given .0 .1 .0) (c .before .before .found .given .0 .0) step (left .sound) lies short))
 
 loop-less : tie.Need-loop-less Inv-loop μ-loop
-loop-less c = let e = ap length (steps-next (c .before .before .before .before .before .before .before .next .ensures) (c .before .before .before .before .before .found .given .1)) in omega arith
+loop-less c =
+    let at-found : tie.After-found Inv-loop μ-loop = search in
+    let at-next : tie.After-next Inv-loop μ-loop = search in
+    let e = ap length (steps-next (at-next .next .ensures) (at-found .found .given .1)) in omega arith
 
 loop-again : tie.Need-loop-again Inv-loop μ-loop
 loop-again c =
-    let l = c .before .before .before .before .before .before .before .before in
-    let s = c .before .before .before .before .before .before .before .before .before .before .before .before in
-    let step = steps-next (c .before .before .before .before .before .before .before .next .ensures) (c .before .before .before .before .before .found .given .1) in
+    let at-found : tie.After-found Inv-loop μ-loop = search in
+    let at-next : tie.After-next Inv-loop μ-loop = search in
+    let at-loop : tie.At-loop Inv-loop μ-loop = search in
+    let at-start : tie.Start Inv-loop μ-loop = search in
+    let step = steps-next (at-next .next .ensures) (at-found .found .given .1) in
     let a = c .before .before .apply-definition .ensures in
-    (a .staged .answered .long ∙ l .loop .inv .0, λ ds e. left-more (s .args .table .now) (l .loop .cursor) (c .before .before .before .before .before .found .given .0 .1 .0) (c .before .before .before .before .before .found .given .0 .0) step (l .loop .inv .1 ds e) a)
+    (a .staged .answered .long ∙ at-loop .loop .inv .0, λ ds e. left-more (at-start .args .table .now) (at-loop .loop .cursor) (at-found .found .given .0 .1 .0) (at-found .found .given .0 .0) step (at-loop .loop .inv .1 ds e) a)
 
 pub apply-definitions-spec : {M : Type 1} → statement M
 apply-definitions-spec =
@@ -74,11 +69,11 @@ apply-definitions-spec =
     (tie.spec
     Inv-loop
     μ-loop
-    start-requires
+    (λ c κs. search needs)
     loop-holds
-    next-requires
-    enum-known-found
-    enum-told
+    (λ c κs. search needs)
+    (λ c. search needs)
+    (λ c. search needs)
     same-length
     returns
     apply-definition-requires

@@ -13,56 +13,51 @@ use borrow.Author.Needs.{needs}
 use Rattle.definitions.proofs.apply_definitions_outside_text.Statement.{statement}
 use Rattle.definitions.proofs.apply_definitions_outside_text.Tie as tie
 
-enum-known-text : tie.Need-enum-known-text
-enum-known-text c = search needs
-
-enum-told : tie.Need-enum-told
-enum-told c = search needs
-
 returns : tie.Need-returns
 returns c = λ ds e. back-refused (applyDefinitionsOutsideText (byLength ds)) _ (c .enum-told .given .1)
 
 hold-texts-requires : tie.Need-hold-texts-requires
-hold-texts-requires c κs = let s = c .before .before .before .before .before .before in holdable (s .pre .0) (s .pre .1 .0) (c .before .before .text .given .1)
-
-apply-definitions-requires : tie.Need-apply-definitions-requires
-apply-definitions-requires c κs = search needs
+hold-texts-requires c κs =
+    let at-start : tie.Start = search in
+    holdable (at-start .pre .0) (at-start .pre .1 .0) (c .before .before .text .given .1)
 
 put-all-back-requires : tie.Need-put-all-back-requires
 put-all-back-requires c κs =
-    let s = c .before .before .before .before .before .before .before .before .before .before .before .before .before .before in
-    let from = c .before .before .before .before .before .before .before .hold-texts .ensures in
-    let source = part (c .before .before .before .before .before .before .before .before .before .before .text .given .0 .0) (c .before .before .before .before .before .before .before .before .before .before .text .given .0 .1 .0) (s .args .work .now) in
-    let extra = c .before .before .before .before .before .before .before .hold-texts .result .extra in
-    let known = not-refused (definitions (s .args .table .now)) (s .pre .1 .1) in
-    let kept = definitions-kept extra (byLength (known .0)) (order-sound (s .args .table .now) (known .0) (known .1)) (holdTexts source) (from .extra) (from .made) in
+    let at-hold-texts : tie.After-hold-texts = search in
+    let at-text : tie.After-text = search in
+    let at-start : tie.Start = search in
+    let from = at-hold-texts .hold-texts .ensures in
+    let source = part (at-text .text .given .0 .0) (at-text .text .given .0 .1 .0) (at-start .args .work .now) in
+    let extra = at-hold-texts .hold-texts .result .extra in
+    let known = not-refused (definitions (at-start .args .table .now)) (at-start .pre .1 .1) in
+    let kept = definitions-kept extra (byLength (known .0)) (order-sound (at-start .args .table .now) (known .0) (known .1)) (holdTexts source) (from .extra) (from .made) in
     let staged = c .before .before .before .apply-definitions .ensures (known .0) (known .1) in
     record { held = holdTexts source; carries = carries-staged from staged kept }
 
-same-length : tie.Need-same-length
-same-length c = search needs
-
 returns-2 : tie.Need-returns-2
 returns-2 c =
-    let s = c .before .before .before .before .before .before .before .before .before .before .before .before .before .before .before .before .before in
-    let from = c .before .before .before .before .before .before .before .before .before .before .hold-texts .ensures in
-    let source = part (c .before .before .before .before .before .before .before .before .before .before .before .before .before .text .given .0 .0) (c .before .before .before .before .before .before .before .before .before .before .before .before .before .text .given .0 .1 .0) (s .args .work .now) in
-    let extra = c .before .before .before .before .before .before .before .before .before .before .hold-texts .result .extra in
+    let at-apply-definitions : tie.After-apply-definitions = search in
+    let at-hold-texts : tie.After-hold-texts = search in
+    let at-text : tie.After-text = search in
+    let at-start : tie.Start = search in
+    let from = at-hold-texts .hold-texts .ensures in
+    let source = part (at-text .text .given .0 .0) (at-text .text .given .0 .1 .0) (at-start .args .work .now) in
+    let extra = at-hold-texts .hold-texts .result .extra in
     λ ds e.
-    let kept = definitions-kept extra (byLength ds) (order-sound (s .args .table .now) ds e) (holdTexts source) (from .extra) (from .made) in
-    let staged = c .before .before .before .before .before .before .apply-definitions .ensures ds e in
-    outside-answered from staged kept (applyDefinitions (byLength ds)) (definitions-held extra (byLength ds) (order-sound (s .args .table .now) ds e) (holdTexts source) (from .extra) (from .made))
-    (ap (λ q. shown q (s .args .work .now)) (c .before .before .before .before .before .before .before .before .before .before .before .before .before .text .given .1)) (c .before .before .put-all-back .ensures (holdTexts source) (carries-staged from staged kept)) (applyDefinitionsOutsideText (byLength ds)) (outside-by-held (byLength ds) source)
+    let kept = definitions-kept extra (byLength ds) (order-sound (at-start .args .table .now) ds e) (holdTexts source) (from .extra) (from .made) in
+    let staged = at-apply-definitions .apply-definitions .ensures ds e in
+    outside-answered from staged kept (applyDefinitions (byLength ds)) (definitions-held extra (byLength ds) (order-sound (at-start .args .table .now) ds e) (holdTexts source) (from .extra) (from .made))
+    (ap (λ q. shown q (at-start .args .work .now)) (at-text .text .given .1)) (c .before .before .put-all-back .ensures (holdTexts source) (carries-staged from staged kept)) (applyDefinitionsOutsideText (byLength ds)) (outside-by-held (byLength ds) source)
 
 pub apply-definitions-outside-text-spec : {M : Type 1} → statement M
 apply-definitions-outside-text-spec =
     tie.close
     (tie.spec
-    enum-known-text
-    enum-told
+    (λ c. search needs)
+    (λ c. search needs)
     returns
     hold-texts-requires
-    apply-definitions-requires
+    (λ c κs. search needs)
     put-all-back-requires
-    same-length
+    (λ c. search needs)
     returns-2)

@@ -15,30 +15,6 @@ start c = c .before .before .before
 line : (c : tie.After-first-line) → asked (c .first-line .result) ≡ firstLine (take (start c .args .n) (start c .args .input .now))
 line c = c .first-line .ensures ∙ ap firstLine (c .before .front .ensures)
 
-front-requires : tie.Need-front-requires
-front-requires c κs = search needs
-
-first-line-requires : tie.Need-first-line-requires
-first-line-requires c κs = search needs
-
-enum-known-display : tie.Need-enum-known-display
-enum-known-display c = search needs
-
-formula-requires : tie.Need-formula-requires
-formula-requires c κs = search needs
-
-front-requires-2 : tie.Need-front-requires-2
-front-requires-2 c κs = search needs
-
-convert-requires : tie.Need-convert-requires
-convert-requires c κs = search needs
-
-enum-told : tie.Need-enum-told
-enum-told c = search needs
-
-put-neither-requires : tie.Need-put-neither-requires
-put-neither-requires c κs = search needs
-
 returns : tie.Need-returns
 returns c =
     let lent = c .before .before .before in
@@ -63,13 +39,13 @@ pub answer-spec : {M : Type 1} → statement M
 answer-spec =
     tie.close
     (tie.spec
-    front-requires
-    first-line-requires
-    enum-known-display
-    formula-requires
-    front-requires-2
-    convert-requires
-    enum-told
-    put-neither-requires
+    (λ c κs. search needs)
+    (λ c κs. search needs)
+    (λ c. search needs)
+    (λ c κs. search needs)
+    (λ c κs. search needs)
+    (λ c κs. search needs)
+    (λ c. search needs)
+    (λ c κs. search needs)
     returns
     returns-2)

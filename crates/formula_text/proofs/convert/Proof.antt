@@ -30,12 +30,6 @@ fits c =
     let l = start (done c) .pre .1 .0 in
     omega arith
 
-typst-to-latex-requires : tie.Need-typst-to-latex-requires
-typst-to-latex-requires c κs = search needs
-
-enum-known-n : tie.Need-enum-known-n
-enum-known-n c = search needs
-
 slice-reshare-prefix-put-latex : tie.Need-slice-reshare-prefix-put-latex
 slice-reshare-prefix-put-latex c = let f = fits (c .before .before) in omega arith
 
@@ -45,36 +39,12 @@ slice-aggregate-put-latex c = let f = fits (c .before .before .before) in simp l
 put-latex-requires : tie.Need-put-latex-requires
 put-latex-requires c κs = let f = fits (c .before .before .before) in (search needs, simp length-take (omega arith))
 
-enum-known-why : tie.Need-enum-known-why
-enum-known-why c = search needs
-
-put-refusal-requires : tie.Need-put-refusal-requires
-put-refusal-requires c κs = search needs
-
-same-length : tie.Need-same-length
-same-length c = search needs
-
-same-length-2 : tie.Need-same-length-2
-same-length-2 c = search needs
-
-same-length-3 : tie.Need-same-length-3
-same-length-3 c = search needs
-
 returns : tie.Need-returns
 returns c =
-    let put = c .before .before in
-    let n = put .before .before .before .before in
-    let made = done n in
-    converts-done (start made .pre .0) (start made .pre .1 .0) (call made .typst-to-latex .ensures) (ap meaning (n .n .given .1)) (put .put-latex .ensures)
-
-same-length-4 : tie.Need-same-length-4
-same-length-4 c = search needs
-
-same-length-5 : tie.Need-same-length-5
-same-length-5 c = search needs
-
-same-length-6 : tie.Need-same-length-6
-same-length-6 c = search needs
+    let at-put-latex = c .before .before in
+    let at-n : tie.After-n = search in
+    let made = done at-n in
+    converts-done (start made .pre .0) (start made .pre .1 .0) (call made .typst-to-latex .ensures) (ap meaning (at-n .n .given .1)) (at-put-latex .put-latex .ensures)
 
 returns-2 : tie.Need-returns-2
 returns-2 c =
@@ -87,18 +57,18 @@ pub convert-spec : {M : Type 1} → statement M
 convert-spec =
     tie.close
     (tie.spec
-    typst-to-latex-requires
-    enum-known-n
+    (λ c κs. search needs)
+    (λ c. search needs)
     slice-reshare-prefix-put-latex
     slice-aggregate-put-latex
     put-latex-requires
-    enum-known-why
-    put-refusal-requires
-    same-length
-    same-length-2
-    same-length-3
+    (λ c. search needs)
+    (λ c κs. search needs)
+    (λ c. search needs)
+    (λ c. search needs)
+    (λ c. search needs)
     returns
-    same-length-4
-    same-length-5
-    same-length-6
+    (λ c. search needs)
+    (λ c. search needs)
+    (λ c. search needs)
     returns-2)

@@ -17,18 +17,6 @@ read : (c : tie.After-first-line) (whole : List ℕ) → Read (start c .args .in
 read c whole r =
     c .first-line .ensures ∙ ap firstLine (c .before .front .ensures) ∙ line-read (start c .args .input .now) (start c .args .n) (search needs) whole r
 
-front-requires : tie.Need-front-requires
-front-requires c κs = search needs
-
-first-line-requires : tie.Need-first-line-requires
-first-line-requires c κs = search needs
-
-enum-told : tie.Need-enum-told
-enum-told c = search needs
-
-enum-told-2 : tie.Need-enum-told-2
-enum-told-2 c = search needs
-
 returns : tie.Need-returns
 returns c whole r = ap (λ l. isAsked (asked l)) (sym (c .enum-told .given .1)) ∙ ap isAsked (read (c .before .before) whole r)
 
@@ -37,4 +25,4 @@ returns-2 c whole r = ap (λ l. isAsked (asked l)) (sym (c .enum-told2 .given .1
 
 pub wants-table-spec : {M : Type 1} → statement M
 wants-table-spec =
-    tie.close (tie.spec front-requires first-line-requires enum-told enum-told-2 returns returns-2)
+    tie.close (tie.spec (λ c κs. search needs) (λ c κs. search needs) (λ c. search needs) (λ c. search needs) returns returns-2)

@@ -6,15 +6,6 @@ use borrow.Author.Needs.{needs}
 use Rattle.jistranu.proofs.jistranu_plain_check.Statement.{statement}
 use Rattle.jistranu.proofs.jistranu_plain_check.Tie as tie
 
-plain-check-requires : tie.Need-plain-check-requires
-plain-check-requires c κs = search needs
-
-enum-known-answer : tie.Need-enum-known-answer
-enum-known-answer c = search needs
-
-enum-told : tie.Need-enum-told
-enum-told c = search needs
-
 returns : tie.Need-returns
 returns c =
     (subst (Checked _) (c .before .answer .given .1) (c .before .before .before .plain-check .ensures), λ e. absurd (false≢true (sym e)))
@@ -25,4 +16,4 @@ returns-2 c =
 
 pub jistranu-plain-check-spec : {M : Type 1} → statement M
 jistranu-plain-check-spec =
-    tie.close (tie.spec plain-check-requires enum-known-answer enum-told returns returns-2)
+    tie.close (tie.spec (λ c κs. search needs) (λ c. search needs) (λ c. search needs) returns returns-2)

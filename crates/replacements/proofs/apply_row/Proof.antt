@@ -27,61 +27,49 @@ add-latex c = let s = c .before .before .before in let w = row-within (s .args .
 end-of-requires-2 : tie.Need-end-of-requires-2
 end-of-requires-2 c κs = let s = c .before .before .before in let w = row-within (s .args .table .now) (s .args .k) (s .pre .1 .1) in omega arith
 
-sub-bounds-of : tie.Need-sub-bounds-of
-sub-bounds-of c = search needs
-
-part-bounds-of-start : tie.Need-part-bounds-of-start
-part-bounds-of-start c = search needs
-
 part-bounds-of-end : tie.Need-part-bounds-of-end
 part-bounds-of-end c =
-    let s = c .before .before .before .before in let w = row-within (s .args .table .now) (s .args .k) (s .pre .1 .1) in
-    let t = typst-fits (s .args .table .now) (s .args .k) (s .pre .1 .1) in let e = c .before .end-of .ensures in
+    let at-start : tie.Start = search in
+    let w = row-within (at-start .args .table .now) (at-start .args .k) (at-start .pre .1 .1) in
+    let t = typst-fits (at-start .args .table .now) (at-start .args .k) (at-start .pre .1 .1) in let e = c .before .end-of .ensures in
     omega arith
-
-bounds-of-requires : tie.Need-bounds-of-requires
-bounds-of-requires c κs = search needs
-
-sub-apply : tie.Need-sub-apply
-sub-apply c = search needs
-
-part-apply-start : tie.Need-part-apply-start
-part-apply-start c = search needs
 
 part-apply-end : tie.Need-part-apply-end
 part-apply-end c =
-    let s = c .before .before .before .before .before .before .before in let w = row-within (s .args .table .now) (s .args .k) (s .pre .1 .1) in
-    let t = typst-fits (s .args .table .now) (s .args .k) (s .pre .1 .1) in let e = c .before .before .before .before .end-of .ensures in
+    let at-end-of : tie.After-end-of = search in
+    let at-start : tie.Start = search in
+    let w = row-within (at-start .args .table .now) (at-start .args .k) (at-start .pre .1 .1) in
+    let t = typst-fits (at-start .args .table .now) (at-start .args .k) (at-start .pre .1 .1) in let e = at-end-of .end-of .ensures in
     omega arith
-
-sub-apply-2 : tie.Need-sub-apply-2
-sub-apply-2 c = search needs
-
-part-apply-start-2 : tie.Need-part-apply-start-2
-part-apply-start-2 c = search needs
 
 part-apply-end-2 : tie.Need-part-apply-end-2
 part-apply-end-2 c =
-    let s = c .before .before .before .before .before .before .before .before in let w = row-within (s .args .table .now) (s .args .k) (s .pre .1 .1) in
-    let t = latex-fits (s .args .table .now) (s .args .k) (s .pre .1 .1) in let e = c .before .before .before .before .end-of2 .ensures in
+    let at-end-of2 : tie.After-end-of2 = search in
+    let at-start : tie.Start = search in
+    let w = row-within (at-start .args .table .now) (at-start .args .k) (at-start .pre .1 .1) in
+    let t = latex-fits (at-start .args .table .now) (at-start .args .k) (at-start .pre .1 .1) in let e = at-end-of2 .end-of2 .ensures in
     omega arith
 
 apply-requires : tie.Need-apply-requires
 apply-requires c κs =
-    let s = c .before .before .before .before .before .before .before .before .before in let table = s .args .table .now in let k = s .args .k in
-    let typst = text-shown table (k * 36) (c .before .before .before .before .before .before .end-of .ensures) in
-    let latex = text-shown table (k * 36 + 16) (c .before .before .before .before .before .end-of2 .ensures) in
-    (s .pre .0, (s .pre .1 .0, subst₂ Fair (sym typst) (sym latex) (row-fair table k (s .pre .1 .1))))
-
-same-length : tie.Need-same-length
-same-length c = search needs
+    let at-end-of2 : tie.After-end-of2 = search in
+    let at-end-of : tie.After-end-of = search in
+    let at-start : tie.Start = search in
+    let table = at-start .args .table .now in let k = at-start .args .k in
+    let typst = text-shown table (k * 36) (at-end-of .end-of .ensures) in
+    let latex = text-shown table (k * 36 + 16) (at-end-of2 .end-of2 .ensures) in
+    (at-start .pre .0, (at-start .pre .1 .0, subst₂ Fair (sym typst) (sym latex) (row-fair table k (at-start .pre .1 .1))))
 
 returns : tie.Need-returns
 returns c =
-    let s = c .before .before .before .before .before .before .before .before .before .before .before .before in let table = s .args .table .now in let k = s .args .k in
-    let typst = text-shown table (k * 36) (c .before .before .before .before .before .before .before .before .before .end-of .ensures) in
-    let latex = text-shown table (k * 36 + 16) (c .before .before .before .before .before .before .before .before .end-of2 .ensures) in
-    row-applied (s .args .kind) (rowAt table k) typst latex (c .before .before .before .before .before .before .bounds-of .ensures) (c .before .before .apply .ensures)
+    let at-bounds-of : tie.After-bounds-of = search in
+    let at-end-of2 : tie.After-end-of2 = search in
+    let at-end-of : tie.After-end-of = search in
+    let at-start : tie.Start = search in
+    let table = at-start .args .table .now in let k = at-start .args .k in
+    let typst = text-shown table (k * 36) (at-end-of .end-of .ensures) in
+    let latex = text-shown table (k * 36 + 16) (at-end-of2 .end-of2 .ensures) in
+    row-applied (at-start .args .kind) (rowAt table k) typst latex (at-bounds-of .bounds-of .ensures) (c .before .before .apply .ensures)
 
 pub apply-row-spec : {M : Type 1} → statement M
 apply-row-spec =
@@ -93,16 +81,16 @@ apply-row-spec =
     end-of-requires
     add-latex
     end-of-requires-2
-    sub-bounds-of
-    part-bounds-of-start
+    (λ c. search needs)
+    (λ c. search needs)
     part-bounds-of-end
-    bounds-of-requires
-    sub-apply
-    part-apply-start
+    (λ c κs. search needs)
+    (λ c. search needs)
+    (λ c. search needs)
     part-apply-end
-    sub-apply-2
-    part-apply-start-2
+    (λ c. search needs)
+    (λ c. search needs)
     part-apply-end-2
     apply-requires
-    same-length
+    (λ c. search needs)
     returns)

@@ -19,28 +19,21 @@ abbrev μ-loop : tie.MeasureT-loop
 loop-holds : tie.Need-loop-holds Inv-loop μ-loop
 loop-holds c = (omega arith, refl, refl)
 
-shared-slice-read-b : tie.Need-shared-slice-read-b Inv-loop μ-loop
-shared-slice-read-b c = omega arith
-
 returns : tie.Need-returns Inv-loop μ-loop
 returns c =
-    let l = c .before .before .before in
-    let ends = l .loop .inv .1 in
-    let more : l .loop .i < length (c .before .before .before .before .args .word .now) = omega arith in
-    sym (any-stop special _ (l .loop .i) more (c .if1 .taken)) ∙ l .loop .inv .2
-
-add-i : tie.Need-add-i Inv-loop μ-loop
-add-i c = omega arith
-
-loop-less : tie.Need-loop-less Inv-loop μ-loop
-loop-less c = omega arith
+    let at-loop = c .before .before .before in
+    let at-start : tie.Start Inv-loop μ-loop = search in
+    let ends = at-loop .loop .inv .1 in
+    let more : at-loop .loop .i < length (at-start .args .word .now) = omega arith in
+    sym (any-stop special _ (at-loop .loop .i) more (c .if1 .taken)) ∙ at-loop .loop .inv .2
 
 loop-again : tie.Need-loop-again Inv-loop μ-loop
 loop-again c =
-    let l = c .before .before .before in
-    let ends = l .loop .inv .1 in
-    let more : l .loop .i < length (c .before .before .before .before .args .word .now) = omega arith in
-    (omega arith, refl, sym (any-more special _ (l .loop .i) more (c .if1 .left)) ∙ l .loop .inv .2)
+    let at-loop = c .before .before .before in
+    let at-start : tie.Start Inv-loop μ-loop = search in
+    let ends = at-loop .loop .inv .1 in
+    let more : at-loop .loop .i < length (at-start .args .word .now) = omega arith in
+    (omega arith, refl, sym (any-more special _ (at-loop .loop .i) more (c .if1 .left)) ∙ at-loop .loop .inv .2)
 
 returns-2 : tie.Need-returns-2 Inv-loop μ-loop
 returns-2 c =
@@ -55,9 +48,9 @@ is-literal-spec =
     Inv-loop
     μ-loop
     loop-holds
-    shared-slice-read-b
+    (λ c. omega arith)
     returns
-    add-i
-    loop-less
+    (λ c. omega arith)
+    (λ c. omega arith)
     loop-again
     returns-2)

@@ -17,21 +17,18 @@ add-typst c = let w = row-within (c .before .before .args .table .now) (c .befor
 end-of-requires : tie.Need-end-of-requires
 end-of-requires c κs = let w = row-within (c .before .before .args .table .now) (c .before .before .args .k) (c .before .before .pre .1 .1) in omega arith
 
-sub-is-nowhere : tie.Need-sub-is-nowhere
-sub-is-nowhere c = search needs
-
-part-is-nowhere-start : tie.Need-part-is-nowhere-start
-part-is-nowhere-start c = search needs
-
 part-is-nowhere-end : tie.Need-part-is-nowhere-end
 part-is-nowhere-end c = let w = row-within (c .before .before .before .args .table .now) (c .before .before .before .args .k) (c .before .before .before .pre .1 .1) in let t = typst-fits (c .before .before .before .args .table .now) (c .before .before .before .args .k) (c .before .before .before .pre .1 .1) in let e = c .end-of .ensures in omega arith
 
 is-nowhere-requires : tie.Need-is-nowhere-requires
-is-nowhere-requires c κs = let p = c .before .before .before .before .pre in (p .0, p .1 .0)
+is-nowhere-requires c κs =
+    let at-start : tie.Start = search in
+    let p = at-start .pre in (p .0, p .1 .0)
 
 returns : tie.Need-returns
 returns c =
-    let a = c .before .before .before .before .before .args in
+    let at-start : tie.Start = search in
+    let a = at-start .args in
     c .is-nowhere .ensures ∙ ap (nowhere (a .text) (a .work .now)) (text-shown (a .table .now) (a .k * 36) (c .before .before .end-of .ensures))
 
 pub is-row-nowhere-spec : {M : Type 1} → statement M
@@ -41,8 +38,8 @@ is-row-nowhere-spec =
     mul-at
     add-typst
     end-of-requires
-    sub-is-nowhere
-    part-is-nowhere-start
+    (λ c. search needs)
+    (λ c. search needs)
     part-is-nowhere-end
     is-nowhere-requires
     returns)

@@ -6,27 +6,17 @@ use borrow.Author.Needs.{needs}
 use Rattle.scripts.proofs.wrap_multichar_scripts.Statement.{statement}
 use Rattle.scripts.proofs.wrap_multichar_scripts.Tie as tie
 
-slice-aggregate-convert : tie.Need-slice-aggregate-convert
-slice-aggregate-convert c = search needs
-
-slice-aggregate-convert-2 : tie.Need-slice-aggregate-convert-2
-slice-aggregate-convert-2 c = search needs
-
-convert-requires : tie.Need-convert-requires
-convert-requires c κs = search needs
-
-same-length : tie.Need-same-length
-same-length c = search needs
-
 returns : tie.Need-returns
-returns c = staged-by (wrapMulticharScripts (c .before .before .before .before .before .before .before .args .sign)) (wrap-multichar-same (c .before .before .before .before .before .before .before .args .sign)) (c .before .before .convert .ensures)
+returns c =
+    let at-start : tie.Start = search in
+    staged-by (wrapMulticharScripts (at-start .args .sign)) (wrap-multichar-same (at-start .args .sign)) (c .before .before .convert .ensures)
 
 pub wrap-multichar-scripts-spec : {M : Type 1} → statement M
 wrap-multichar-scripts-spec =
     tie.close
     (tie.spec
-    slice-aggregate-convert
-    slice-aggregate-convert-2
-    convert-requires
-    same-length
+    (λ c. search needs)
+    (λ c. search needs)
+    (λ c κs. search needs)
+    (λ c. search needs)
     returns)

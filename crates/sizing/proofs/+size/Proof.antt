@@ -85,7 +85,8 @@ part-piece-at-end t c = omega arith
 
 piece-at-requires : (t : ℕ) → size-lts.Need-piece-at-requires (callees t) (size-at t) size.Post Inv-loop μ-loop
 piece-at-requires t c κs =
-    let p = c .before .before .before .before .before .pre .1 in
+    let at-start : size-lts.Start (callees t) (size-at t) size.Post Inv-loop μ-loop = search in
+    let p = at-start .pre .1 in
     (simp (length-take, length-drop) (omega arith), simp (length-take, length-drop) (omega arith))
 
 enum-known-k : (t : ℕ) → size-lts.Need-enum-known-k (callees t) (size-at t) size.Post Inv-loop μ-loop
@@ -93,39 +94,46 @@ enum-known-k t c = search needs
 
 -- the symbols that are copied
 keeps : (t : ℕ) (c : size-lts.After-known-told (callees t) (size-at t) size.Post Inv-loop μ-loop)
-    → (let l = c .before .before .before .before .before .before .before in let k = c .before .k .given .0 .0 in (0 < k) × (l .loop .i + k ≤ l .before .before .args .n))
+    → (let at-loop : size-lts.At-loop (callees t) (size-at t) size.Post Inv-loop μ-loop = search in let k = c .before .k .given .0 .0 in (0 < k) × (at-loop .loop .i + k ≤ at-loop .before .before .args .n))
 keeps t c =
-    let l = c .before .before .before .before .before .before .before in (
-      kept-piece (l .loop .i) (l .before .before .pre .1) (l .loop .inv .4) _ (c .before .before .before .piece-at .ensures) (c .before .k .given .1) .some,
-      kept-fits (l .loop .i) (l .before .before .pre .1) (l .loop .inv .4) _ (c .before .before .before .piece-at .ensures) (c .before .k .given .1),
+    let at-loop : size-lts.At-loop (callees t) (size-at t) size.Post Inv-loop μ-loop = search in (
+      kept-piece (at-loop .loop .i) (at-loop .before .before .pre .1) (at-loop .loop .inv .4) _ (c .before .before .before .piece-at .ensures) (c .before .k .given .1) .some,
+      kept-fits (at-loop .loop .i) (at-loop .before .before .pre .1) (at-loop .loop .inv .4) _ (c .before .before .before .piece-at .ensures) (c .before .k .given .1),
     )
 
 copy-requires : (t : ℕ) → size-lts.Need-copy-requires (callees t) (size-at t) size.Post Inv-loop μ-loop
 copy-requires t c κs =
-    let l = c .before .before .before .before .before .before .before .before in
-    let a = l .before .before .args in
-    let p = l .before .before .pre .1 in
+    let at-loop : size-lts.At-loop (callees t) (size-at t) size.Post Inv-loop μ-loop = search in
+    let a = at-loop .before .before .args in
+    let p = at-loop .before .before .pre .1 in
     let f = keeps t (c .before) in
     let k = c .before .before .k .given .0 .0 in
-    (record { region = omega arith; small = omega arith }, (omega arith, apart-part (a .from) (a .n) (a .to) 8192 (l .loop .i) k (p .apart) (f .1)))
+    (record { region = omega arith; small = omega arith }, (omega arith, apart-part (a .from) (a .n) (a .to) 8192 (at-loop .loop .i) k (p .apart) (f .1)))
 
 add-i : (t : ℕ) → size-lts.Need-add-i (callees t) (size-at t) size.Post Inv-loop μ-loop
-add-i t c = let f = keeps t (c .before .before .before .before) in omega arith
+add-i t c =
+    let at-known-told : size-lts.After-known-told (callees t) (size-at t) size.Post Inv-loop μ-loop = search in
+    let f = keeps t at-known-told in omega arith
 
 loop-less : (t : ℕ) → size-lts.Need-loop-less (callees t) (size-at t) size.Post Inv-loop μ-loop
-loop-less t c = let f = keeps t (c .before .before .before .before) in omega arith
+loop-less t c =
+    let at-known-told : size-lts.After-known-told (callees t) (size-at t) size.Post Inv-loop μ-loop = search in
+    let f = keeps t at-known-told in omega arith
 
 loop-again : (t : ℕ) → size-lts.Need-loop-again (callees t) (size-at t) size.Post Inv-loop μ-loop
 loop-again t c =
-    let l = c .before .before .before .before .before .before .before .before .before .before .before in
-    let s = l .before .before in
-    let f = keeps t (c .before .before .before .before) in
-    let k = c .before .before .before .before .before .k .given .0 .0 in
+    let at-known-told : size-lts.After-known-told (callees t) (size-at t) size.Post Inv-loop μ-loop = search in
+    let at-k : size-lts.After-k (callees t) (size-at t) size.Post Inv-loop μ-loop = search in
+    let at-piece-at : size-lts.After-piece-at (callees t) (size-at t) size.Post Inv-loop μ-loop = search in
+    let at-loop : size-lts.At-loop (callees t) (size-at t) size.Post Inv-loop μ-loop = search in
+    let at-start : size-lts.Start (callees t) (size-at t) size.Post Inv-loop μ-loop = search in
+    let f = keeps t at-known-told in
+    let k = at-k .k .given .0 .0 in
     let a = c .before .before .copy .ensures in
     let n = a .counted in
-    let m = length-take k (drop (s .args .from + l .loop .i) (l .loop .work)) in
+    let m = length-take k (drop (at-start .args .from + at-loop .loop .i) (at-loop .loop .work)) in
     let long = appended-long a in
-    (f .1, refl, omega arith, omega arith, kept-more (l .loop .i) (s .pre .1) (l .loop .inv .4) _ (c .before .before .before .before .before .before .before .piece-at .ensures) (c .before .before .before .before .before .k .given .1) a)
+    (f .1, refl, omega arith, omega arith, kept-more (at-loop .loop .i) (at-start .pre .1) (at-loop .loop .inv .4) _ (at-piece-at .piece-at .ensures) (at-k .k .given .1) a)
 
 enum-known-k-2 : (t : ℕ) → size-lts.Need-enum-known-k-2 (callees t) (size-at t) size.Post Inv-loop μ-loop
 enum-known-k-2 t c = search needs
@@ -134,24 +142,32 @@ slice-read-b : (t : ℕ) → size-lts.Need-slice-read-b (callees t) (size-at t) 
 slice-read-b t c = omega arith
 
 put-left-requires : (t : ℕ) → size-lts.Need-put-left-requires (callees t) (size-at t) size.Post Inv-loop μ-loop
-put-left-requires t c κs = let p = c .before .before .before .before .before .before .before .before .before .before .before .pre .1 in record { region = omega arith; small = omega arith }
+put-left-requires t c κs =
+    let at-start : size-lts.Start (callees t) (size-at t) size.Post Inv-loop μ-loop = search in
+    let p = at-start .pre .1 in record { region = omega arith; small = omega arith }
 
 -- the group that is sized
-grows : (t : ℕ) (c : size-lts.After-known-told2 (callees t) (size-at t) size.Post Inv-loop μ-loop) → (let l = c .before .before .before .before .before .before .before in l .loop .i + c .before .k2 .given .0 .0 + 2 ≤ l .before .before .args .n)
-grows t c = let l = c .before .before .before .before .before .before .before in grown-fits (l .loop .i) (l .before .before .pre .1) (l .loop .inv .4) _ (c .before .before .before .piece-at .ensures) (c .before .k2 .given .1)
+grows : (t : ℕ) (c : size-lts.After-known-told2 (callees t) (size-at t) size.Post Inv-loop μ-loop) → (let at-loop : size-lts.At-loop (callees t) (size-at t) size.Post Inv-loop μ-loop = search in at-loop .loop .i + c .before .k2 .given .0 .0 + 2 ≤ at-loop .before .before .args .n)
+grows t c =
+    let at-loop : size-lts.At-loop (callees t) (size-at t) size.Post Inv-loop μ-loop = search in
+    grown-fits (at-loop .loop .i) (at-loop .before .before .pre .1) (at-loop .loop .inv .4) _ (c .before .before .before .piece-at .ensures) (c .before .k2 .given .1)
 
 add-inside : (t : ℕ) → size-lts.Need-add-inside (callees t) (size-at t) size.Post Inv-loop μ-loop
-add-inside t c = let f = grows t (c .before .before .before .before .before) in omega arith
+add-inside t c =
+    let at-known-told2 : size-lts.After-known-told2 (callees t) (size-at t) size.Post Inv-loop μ-loop = search in
+    let f = grows t at-known-told2 in omega arith
 
 add-size : (t : ℕ) → size-lts.Need-add-size (callees t) (size-at t) size.Post Inv-loop μ-loop
-add-size t c = let f = grows t (c .before .before .before .before .before .before) in omega arith
+add-size t c =
+    let at-known-told2 : size-lts.After-known-told2 (callees t) (size-at t) size.Post Inv-loop μ-loop = search in
+    let f = grows t at-known-told2 in omega arith
 
 size-requires : (t : ℕ) → size-lts.Need-size-requires (callees t) (size-at t) size.Post Inv-loop μ-loop
 size-requires t c κs =
-    let known = c .before .before .before .before .before .before in
-    let l = known .before .before .before .before .before .before .before in
-    let p = l .before .before .pre .1 in
-    let f = grows t known in
+    let at-known-told2 : size-lts.After-known-told2 (callees t) (size-at t) size.Post Inv-loop μ-loop = search in
+    let at-loop : size-lts.At-loop (callees t) (size-at t) size.Post Inv-loop μ-loop = search in
+    let p = at-loop .before .before .pre .1 in
+    let f = grows t at-known-told2 in
     let left = c .before .before .before .put-left .ensures in
     let long = appended-long left in
     let n = left .counted in (
@@ -159,7 +175,7 @@ size-requires t c κs =
       record {
         source = omega arith;
         region = omega arith;
-        apart = inner-apart (l .loop .i) p (l .loop .inv .4) _ (known .before .before .before .piece-at .ensures) (known .before .k2 .given .1);
+        apart = inner-apart (at-loop .loop .i) p (at-loop .loop .inv .4) _ (at-known-told2 .before .before .before .piece-at .ensures) (at-known-told2 .before .k2 .given .1);
         short = omega arith;
         small = omega arith;
       },
@@ -170,12 +186,14 @@ closer-of-requires t c κs = search needs
 
 put-right-requires : (t : ℕ) → size-lts.Need-put-right-requires (callees t) (size-at t) size.Post Inv-loop μ-loop
 put-right-requires t c κs =
-    let known = c .before .before .before .before .before .before .before .before .before .before .before in
-    let l = known .before .before .before .before .before .before .before in
-    let p = l .before .before .pre .1 in
-    let f = grows t known in
-    let left = c .before .before .before .before .before .before .before .before .put-left .ensures in
-    let inner = c .before .before .before .before .size .ensures in
+    let at-size : size-lts.After-size (callees t) (size-at t) size.Post Inv-loop μ-loop = search in
+    let at-put-left : size-lts.After-put-left (callees t) (size-at t) size.Post Inv-loop μ-loop = search in
+    let at-known-told2 : size-lts.After-known-told2 (callees t) (size-at t) size.Post Inv-loop μ-loop = search in
+    let at-loop : size-lts.At-loop (callees t) (size-at t) size.Post Inv-loop μ-loop = search in
+    let p = at-loop .before .before .pre .1 in
+    let f = grows t at-known-told2 in
+    let left = at-put-left .put-left .ensures in
+    let inner = at-size .size .ensures in
     let long = appended-long left in
     let longer = appended-long (inner .appended) in
     let n = left .counted in
@@ -183,36 +201,44 @@ put-right-requires t c κs =
     record { region = omega arith; small = omega arith }
 
 add-i-2 : (t : ℕ) → size-lts.Need-add-i-2 (callees t) (size-at t) size.Post Inv-loop μ-loop
-add-i-2 t c = let f = grows t (c .before .before .before .before .before .before .before .before .before .before .before .before .before .before) in omega arith
+add-i-2 t c =
+    let at-known-told2 : size-lts.After-known-told2 (callees t) (size-at t) size.Post Inv-loop μ-loop = search in
+    let f = grows t at-known-told2 in omega arith
 
 add-i-3 : (t : ℕ) → size-lts.Need-add-i-3 (callees t) (size-at t) size.Post Inv-loop μ-loop
-add-i-3 t c = let f = grows t (c .before .before .before .before .before .before .before .before .before .before .before .before .before .before) in omega arith
+add-i-3 t c =
+    let at-known-told2 : size-lts.After-known-told2 (callees t) (size-at t) size.Post Inv-loop μ-loop = search in
+    let f = grows t at-known-told2 in omega arith
 
 loop-less-2 : (t : ℕ) → size-lts.Need-loop-less-2 (callees t) (size-at t) size.Post Inv-loop μ-loop
-loop-less-2 t c = let f = grows t (c .before .before .before .before .before .before .before .before .before .before .before .before .before .before) in omega arith
+loop-less-2 t c =
+    let at-known-told2 : size-lts.After-known-told2 (callees t) (size-at t) size.Post Inv-loop μ-loop = search in
+    let f = grows t at-known-told2 in omega arith
 
 loop-again-2 : (t : ℕ) → size-lts.Need-loop-again-2 (callees t) (size-at t) size.Post Inv-loop μ-loop
 loop-again-2 t c =
-    let known = c .before .before .before .before .before .before .before .before .before .before .before .before .before .before in
-    let l = known .before .before .before .before .before .before .before in
-    let s = l .before .before in
-    let f = grows t known in
-    let left = c .before .before .before .before .before .before .before .before .before .before .before .put-left .ensures in
-    let inner = c .before .before .before .before .before .before .before .size .ensures in
+    let at-size : size-lts.After-size (callees t) (size-at t) size.Post Inv-loop μ-loop = search in
+    let at-put-left : size-lts.After-put-left (callees t) (size-at t) size.Post Inv-loop μ-loop = search in
+    let at-known-told2 : size-lts.After-known-told2 (callees t) (size-at t) size.Post Inv-loop μ-loop = search in
+    let at-loop : size-lts.At-loop (callees t) (size-at t) size.Post Inv-loop μ-loop = search in
+    let at-start : size-lts.Start (callees t) (size-at t) size.Post Inv-loop μ-loop = search in
+    let f = grows t at-known-told2 in
+    let left = at-put-left .put-left .ensures in
+    let inner = at-size .size .ensures in
     let right = c .before .before .put-right .ensures in
     let long = appended-long left in
     let longer = appended-long (inner .appended) in
     let longest = appended-long right in
-    let old = l .loop .inv .2 in
+    let old = at-loop .loop .inv .2 in
     let n = left .counted in
     let m = inner .few in
     let q = right .counted in
-    let slow = l .loop .inv .3 in (
+    let slow = at-loop .loop .inv .3 in (
       omega arith,
       refl,
       omega arith,
       omega arith,
-      grown-more (l .loop .i) (s .pre .1) (l .loop .inv .4) _ (known .before .before .before .piece-at .ensures) (known .before .k2 .given .1) left inner (c .before .before .before .closer-of .ensures) right,
+      grown-more (at-loop .loop .i) (at-start .pre .1) (at-loop .loop .inv .4) _ (at-known-told2 .before .before .before .piece-at .ensures) (at-known-told2 .before .k2 .given .1) left inner (c .before .before .before .closer-of .ensures) right,
     )
 
 same-length : (t : ℕ) → size-lts.Need-same-length (callees t) (size-at t) size.Post Inv-loop μ-loop

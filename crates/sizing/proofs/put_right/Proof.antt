@@ -5,27 +5,25 @@ use borrow.Author.Needs.{needs}
 use Rattle.sizing.proofs.put_right.Statement.{statement}
 use Rattle.sizing.proofs.put_right.Tie as tie
 
-slice-aggregate-put-all : tie.Need-slice-aggregate-put-all
-slice-aggregate-put-all c = search needs
-
 put-all-requires : tie.Need-put-all-requires
 put-all-requires c κs = let r = c .before .before .before .pre in record { region = r .region; small = omega arith }
 
 put-requires : tie.Need-put-requires
-put-requires c κs = room-left 1 (c .before .before .before .put-all .ensures) (c .before .before .before .before .before .before .before .pre)
-
-same-length : tie.Need-same-length
-same-length c = search needs
+put-requires c κs =
+    let at-start : tie.Start = search in
+    room-left 1 (c .before .before .before .put-all .ensures) (at-start .pre)
 
 returns : tie.Need-returns
-returns c = appended-more (c .before .before .before .before .before .before .put-all .ensures) (c .before .before .put .ensures)
+returns c =
+    let at-put-all : tie.After-put-all = search in
+    appended-more (at-put-all .put-all .ensures) (c .before .before .put .ensures)
 
 pub put-right-spec : {M : Type 1} → statement M
 put-right-spec =
     tie.close
     (tie.spec
-    slice-aggregate-put-all
+    (λ c. search needs)
     put-all-requires
     put-requires
-    same-length
+    (λ c. search needs)
     returns)

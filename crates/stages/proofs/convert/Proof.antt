@@ -12,50 +12,68 @@ mark-solidus-requires : tie.Need-mark-solidus-requires
 mark-solidus-requires c κs = c .before .before .before .pre .0
 
 convert-op-requires : tie.Need-convert-op-requires
-convert-op-requires c κs = staged-ready (mark-solidus-requires (c .before .before .before .before) κs) (c .before .before .before .mark-solidus .ensures)
+convert-op-requires c κs =
+    let at-mark-solidus-arg : tie.After-mark-solidus-arg = search in
+    staged-ready (mark-solidus-requires at-mark-solidus-arg κs) (c .before .before .before .mark-solidus .ensures)
 
 convert-cases-requires : tie.Need-convert-cases-requires
-convert-cases-requires c κs = staged-ready (convert-op-requires (c .before .before .before .before) κs) (c .before .before .before .convert-op .ensures)
+convert-cases-requires c κs =
+    let at-convert-op-arg : tie.After-convert-op-arg = search in
+    staged-ready (convert-op-requires at-convert-op-arg κs) (c .before .before .before .convert-op .ensures)
 
 convert-attach-requires : tie.Need-convert-attach-requires
-convert-attach-requires c κs = staged-ready (convert-cases-requires (c .before .before .before .before) κs) (c .before .before .before .convert-cases .ensures)
+convert-attach-requires c κs =
+    let at-convert-cases-arg : tie.After-convert-cases-arg = search in
+    staged-ready (convert-cases-requires at-convert-cases-arg κs) (c .before .before .before .convert-cases .ensures)
 
 convert-bb-requires : tie.Need-convert-bb-requires
-convert-bb-requires c κs = answered-ready (convert-attach-requires (c .before .before .before .before) κs) (c .before .before .before .convert-attach .ensures .0)
+convert-bb-requires c κs =
+    let at-convert-attach-arg : tie.After-convert-attach-arg = search in
+    answered-ready (convert-attach-requires at-convert-attach-arg κs) (c .before .before .before .convert-attach .ensures .0)
 
 convert-bold-requires : tie.Need-convert-bold-requires
-convert-bold-requires c κs = staged-ready (convert-bb-requires (c .before .before .before .before) κs) (c .before .before .before .convert-bb .ensures)
+convert-bold-requires c κs =
+    let at-convert-bb-arg : tie.After-convert-bb-arg = search in
+    staged-ready (convert-bb-requires at-convert-bb-arg κs) (c .before .before .before .convert-bb .ensures)
 
 convert-binom-requires : tie.Need-convert-binom-requires
-convert-binom-requires c κs = staged-ready (convert-bold-requires (c .before .before .before .before) κs) (c .before .before .before .convert-bold .ensures)
+convert-binom-requires c κs =
+    let at-convert-bold-arg : tie.After-convert-bold-arg = search in
+    staged-ready (convert-bold-requires at-convert-bold-arg κs) (c .before .before .before .convert-bold .ensures)
 
 convert-upright-requires : tie.Need-convert-upright-requires
-convert-upright-requires c κs = staged-ready (convert-binom-requires (c .before .before .before .before) κs) (c .before .before .before .convert-binom .ensures)
+convert-upright-requires c κs =
+    let at-convert-binom-arg : tie.After-convert-binom-arg = search in
+    staged-ready (convert-binom-requires at-convert-binom-arg κs) (c .before .before .before .convert-binom .ensures)
 
 convert-floor-ceil-abs-requires : tie.Need-convert-floor-ceil-abs-requires
-convert-floor-ceil-abs-requires c κs = staged-ready (convert-upright-requires (c .before .before .before .before) κs) (c .before .before .before .convert-upright .ensures)
+convert-floor-ceil-abs-requires c κs =
+    let at-convert-upright-arg : tie.After-convert-upright-arg = search in
+    staged-ready (convert-upright-requires at-convert-upright-arg κs) (c .before .before .before .convert-upright .ensures)
 
 convert-text-quotes-requires : tie.Need-convert-text-quotes-requires
-convert-text-quotes-requires c κs = staged-ready (convert-floor-ceil-abs-requires (c .before .before .before .before) κs) (c .before .before .before .convert-floor-ceil-abs .ensures)
+convert-text-quotes-requires c κs =
+    let at-convert-floor-ceil-abs-arg : tie.After-convert-floor-ceil-abs-arg = search in
+    staged-ready (convert-floor-ceil-abs-requires at-convert-floor-ceil-abs-arg κs) (c .before .before .before .convert-floor-ceil-abs .ensures)
 
 apply-definitions-outside-text-requires : tie.Need-apply-definitions-outside-text-requires
 apply-definitions-outside-text-requires c κs =
-    let s10 = c .before .before .before in
-    let s9 = s10 .before .before .before .before in
-    let s8 = s9 .before .before .before .before in
-    let s7 = s8 .before .before .before .before in
-    let s6 = s7 .before .before .before .before in
-    let s5 = s6 .before .before .before .before in
-    let s4 = s5 .before .before .before .before in
-    let s3 = s4 .before .before .before .before in
-    let s2 = s3 .before .before .before .before in
-    let s1 = s2 .before .before .before .before in
-    let start = s1 .before .before .before .before in
+    let at-convert-text-quotes = c .before .before .before in
+    let at-convert-floor-ceil-abs : tie.After-convert-floor-ceil-abs = search in
+    let at-convert-upright : tie.After-convert-upright = search in
+    let at-convert-binom : tie.After-convert-binom = search in
+    let at-convert-bold : tie.After-convert-bold = search in
+    let at-convert-bb : tie.After-convert-bb = search in
+    let at-convert-attach : tie.After-convert-attach = search in
+    let at-convert-cases : tie.After-convert-cases = search in
+    let at-convert-op : tie.After-convert-op = search in
+    let at-mark-solidus : tie.After-mark-solidus = search in
+    let at-start : tie.Start = search in
     let first =
-    first-stages (s1 .mark-solidus .ensures) (s2 .convert-op .ensures) (s3 .convert-cases .ensures) (s4 .convert-attach .ensures .0)
-    (s5 .convert-bb .ensures) (s6 .convert-bold .ensures) (s7 .convert-binom .ensures) (s8 .convert-upright .ensures)
-    (s9 .convert-floor-ceil-abs .ensures) (s10 .convert-text-quotes .ensures) in
-    (answered-ready (start .pre .0) first, fit-after before-definitions-passes first (start .pre .1))
+    first-stages (at-mark-solidus .mark-solidus .ensures) (at-convert-op .convert-op .ensures) (at-convert-cases .convert-cases .ensures) (at-convert-attach .convert-attach .ensures .0)
+    (at-convert-bb .convert-bb .ensures) (at-convert-bold .convert-bold .ensures) (at-convert-binom .convert-binom .ensures) (at-convert-upright .convert-upright .ensures)
+    (at-convert-floor-ceil-abs .convert-floor-ceil-abs .ensures) (at-convert-text-quotes .convert-text-quotes .ensures) in
+    (answered-ready (at-start .pre .0) first, fit-after before-definitions-passes first (at-start .pre .1))
 
 convert-syntax-requires : tie.Need-convert-syntax-requires
 convert-syntax-requires c κs =
@@ -65,35 +83,43 @@ convert-syntax-requires c κs =
     (answered-ready (asked .0) applied, bare-after (outside-passes _) applied (asked .1 .bare))
 
 convert-alignment-requires : tie.Need-convert-alignment-requires
-convert-alignment-requires c κs = answered-ready (convert-syntax-requires (c .before .before .before .before) κs .0) (c .before .before .before .convert-syntax .ensures)
+convert-alignment-requires c κs =
+    let at-convert-syntax-arg : tie.After-convert-syntax-arg = search in
+    answered-ready (convert-syntax-requires at-convert-syntax-arg κs .0) (c .before .before .before .convert-syntax .ensures)
 
 drop-thin-space-after-commands-requires : tie.Need-drop-thin-space-after-commands-requires
-drop-thin-space-after-commands-requires c κs = staged-ready (convert-alignment-requires (c .before .before .before .before) κs) (c .before .before .before .convert-alignment .ensures)
+drop-thin-space-after-commands-requires c κs =
+    let at-convert-alignment-arg : tie.After-convert-alignment-arg = search in
+    staged-ready (convert-alignment-requires at-convert-alignment-arg κs) (c .before .before .before .convert-alignment .ensures)
+
+-- the farthest place, which `search` does not see behind so many others
+abbrev solidus-marked : tie.After-convert-op → tie.After-mark-solidus
+solidus-marked c = search
 
 returns : tie.Need-returns
 unfolding typstToLatex
 returns c =
-    let s14 = c .before .before in
-    let s13 = s14 .before .before .before .before in
-    let s12 = s13 .before .before .before .before in
-    let s11 = s12 .before .before .before .before in
-    let s10 = s11 .before .before .before .before in
-    let s9 = s10 .before .before .before .before in
-    let s8 = s9 .before .before .before .before in
-    let s7 = s8 .before .before .before .before in
-    let s6 = s7 .before .before .before .before in
-    let s5 = s6 .before .before .before .before in
-    let s4 = s5 .before .before .before .before in
-    let s3 = s4 .before .before .before .before in
-    let s2 = s3 .before .before .before .before in
-    let s1 = s2 .before .before .before .before in
+    let at-drop-thin-space-after-commands = c .before .before in
+    let at-convert-alignment : tie.After-convert-alignment = search in
+    let at-convert-syntax : tie.After-convert-syntax = search in
+    let at-apply-definitions-outside-text : tie.After-apply-definitions-outside-text = search in
+    let at-convert-text-quotes : tie.After-convert-text-quotes = search in
+    let at-convert-floor-ceil-abs : tie.After-convert-floor-ceil-abs = search in
+    let at-convert-upright : tie.After-convert-upright = search in
+    let at-convert-binom : tie.After-convert-binom = search in
+    let at-convert-bold : tie.After-convert-bold = search in
+    let at-convert-bb : tie.After-convert-bb = search in
+    let at-convert-attach : tie.After-convert-attach = search in
+    let at-convert-cases : tie.After-convert-cases = search in
+    let at-convert-op : tie.After-convert-op = search in
+    let at-mark-solidus = solidus-marked at-convert-op in
     answered-then
     (answered-then
     (answered-then
-    (answered-then (first-stages (s1 .mark-solidus .ensures) (s2 .convert-op .ensures) (s3 .convert-cases .ensures) (s4 .convert-attach .ensures .0) (s5 .convert-bb .ensures) (s6 .convert-bold .ensures) (s7 .convert-binom .ensures) (s8 .convert-upright .ensures) (s9 .convert-floor-ceil-abs .ensures) (s10 .convert-text-quotes .ensures)) (s11 .apply-definitions-outside-text .ensures))
-    (s12 .convert-syntax .ensures))
-    (s13 .convert-alignment .ensures .answered))
-    (s14 .drop-thin-space-after-commands .ensures .answered)
+    (answered-then (first-stages (at-mark-solidus .mark-solidus .ensures) (at-convert-op .convert-op .ensures) (at-convert-cases .convert-cases .ensures) (at-convert-attach .convert-attach .ensures .0) (at-convert-bb .convert-bb .ensures) (at-convert-bold .convert-bold .ensures) (at-convert-binom .convert-binom .ensures) (at-convert-upright .convert-upright .ensures) (at-convert-floor-ceil-abs .convert-floor-ceil-abs .ensures) (at-convert-text-quotes .convert-text-quotes .ensures)) (at-apply-definitions-outside-text .apply-definitions-outside-text .ensures))
+    (at-convert-syntax .convert-syntax .ensures))
+    (at-convert-alignment .convert-alignment .ensures .answered))
+    (at-drop-thin-space-after-commands .drop-thin-space-after-commands .ensures .answered)
 
 same-length : tie.Need-same-length
 same-length c = returns c .long

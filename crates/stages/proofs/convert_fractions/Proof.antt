@@ -6,12 +6,6 @@ use Rattle.stages.specs.Chain.{on-display, off-display}
 use Rattle.stages.proofs.convert_fractions.Statement.{statement}
 use Rattle.stages.proofs.convert_fractions.Tie as tie
 
-convert-fractions-requires : tie.Need-convert-fractions-requires
-convert-fractions-requires c κs = search needs
-
-same-length : tie.Need-same-length
-same-length c = search needs
-
 returns : tie.Need-returns
 returns c = let s = c .before .before in on-display (s .before .before .if1 .taken) (s .convert-fractions .ensures)
 
@@ -19,4 +13,4 @@ returns-2 : tie.Need-returns-2
 returns-2 c = off-display convertFractions (c .if1 .left) (c .before .before .pre)
 
 pub convert-fractions-spec : {M : Type 1} → statement M
-convert-fractions-spec = tie.close (tie.spec convert-fractions-requires same-length returns returns-2)
+convert-fractions-spec = tie.close (tie.spec (λ c κs. search needs) (λ c. search needs) returns returns-2)

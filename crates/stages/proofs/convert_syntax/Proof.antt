@@ -11,61 +11,84 @@ convert-sqrt-requires : tie.Need-convert-sqrt-requires
 convert-sqrt-requires c κs = c .before .before .pre .0
 
 convert-functions-requires : tie.Need-convert-functions-requires
-convert-functions-requires c κs = staged-ready (convert-sqrt-requires (c .before .before .before .before) κs) (c .before .before .before .convert-sqrt .ensures)
+convert-functions-requires c κs =
+    let at-convert-sqrt-arg : tie.After-convert-sqrt-arg = search in
+    staged-ready (convert-sqrt-requires at-convert-sqrt-arg κs) (c .before .before .before .convert-sqrt .ensures)
 
 convert-operators-requires : tie.Need-convert-operators-requires
-convert-operators-requires c κs = staged-ready (convert-functions-requires (c .before .before .before .before) κs) (c .before .before .before .convert-functions .ensures)
+convert-operators-requires c κs =
+    let at-convert-functions-arg : tie.After-convert-functions-arg = search in
+    staged-ready (convert-functions-requires at-convert-functions-arg κs) (c .before .before .before .convert-functions .ensures)
 
 convert-words-requires : tie.Need-convert-words-requires
 convert-words-requires c κs =
-    let s3 = c .before .before .before in
-    let s2 = s3 .before .before .before .before in
-    let s1 = s2 .before .before .before .before in
-    (staged-ready (convert-operators-requires (c .before .before .before .before) κs) (c .before .before .before .convert-operators .ensures), unmarked-after before-words-passes (stages-before-words (s1 .convert-sqrt .ensures) (s2 .convert-functions .ensures) (s3 .convert-operators .ensures)) (s1 .before .before .before .pre .1))
+    let at-convert-operators = c .before .before .before in
+    let at-convert-operators-arg : tie.After-convert-operators-arg = search in
+    let at-convert-functions : tie.After-convert-functions = search in
+    let at-convert-sqrt : tie.After-convert-sqrt = search in
+    (staged-ready (convert-operators-requires at-convert-operators-arg κs) (at-convert-operators .convert-operators .ensures), unmarked-after before-words-passes (stages-before-words (at-convert-sqrt .convert-sqrt .ensures) (at-convert-functions .convert-functions .ensures) (at-convert-operators .convert-operators .ensures)) (at-convert-sqrt .before .before .before .pre .1))
 
 convert-greek-capitals-requires : tie.Need-convert-greek-capitals-requires
-convert-greek-capitals-requires c κs = answered-ready (convert-words-requires (c .before .before .before .before) κs .0) (c .before .before .before .convert-words .ensures)
+convert-greek-capitals-requires c κs =
+    let at-convert-words-arg : tie.After-convert-words-arg = search in
+    answered-ready (convert-words-requires at-convert-words-arg κs .0) (c .before .before .before .convert-words .ensures)
 
 convert-subscripts-requires : tie.Need-convert-subscripts-requires
-convert-subscripts-requires c κs = staged-ready (convert-greek-capitals-requires (c .before .before .before .before) κs) (c .before .before .before .convert-greek-capitals .ensures)
+convert-subscripts-requires c κs =
+    let at-convert-greek-capitals-arg : tie.After-convert-greek-capitals-arg = search in
+    staged-ready (convert-greek-capitals-requires at-convert-greek-capitals-arg κs) (c .before .before .before .convert-greek-capitals .ensures)
 
 convert-superscripts-requires : tie.Need-convert-superscripts-requires
-convert-superscripts-requires c κs = staged-ready (convert-subscripts-requires (c .before .before .before .before) κs) (c .before .before .before .convert-subscripts .ensures)
+convert-superscripts-requires c κs =
+    let at-convert-subscripts-arg : tie.After-convert-subscripts-arg = search in
+    staged-ready (convert-subscripts-requires at-convert-subscripts-arg κs) (c .before .before .before .convert-subscripts .ensures)
 
 convert-fractions-requires : tie.Need-convert-fractions-requires
-convert-fractions-requires c κs = staged-ready (convert-superscripts-requires (c .before .before .before .before) κs) (c .before .before .before .convert-superscripts .ensures)
+convert-fractions-requires c κs =
+    let at-convert-superscripts-arg : tie.After-convert-superscripts-arg = search in
+    staged-ready (convert-superscripts-requires at-convert-superscripts-arg κs) (c .before .before .before .convert-superscripts .ensures)
 
 unmark-solidus-requires : tie.Need-unmark-solidus-requires
-unmark-solidus-requires c κs = staged-ready (convert-fractions-requires (c .before .before .before .before) κs) (c .before .before .before .convert-fractions .ensures)
+unmark-solidus-requires c κs =
+    let at-convert-fractions-arg : tie.After-convert-fractions-arg = search in
+    staged-ready (convert-fractions-requires at-convert-fractions-arg κs) (c .before .before .before .convert-fractions .ensures)
 
 escape-set-braces-requires : tie.Need-escape-set-braces-requires
-escape-set-braces-requires c κs = staged-ready (unmark-solidus-requires (c .before .before .before .before) κs) (c .before .before .before .unmark-solidus .ensures)
+escape-set-braces-requires c κs =
+    let at-unmark-solidus-arg : tie.After-unmark-solidus-arg = search in
+    staged-ready (unmark-solidus-requires at-unmark-solidus-arg κs) (c .before .before .before .unmark-solidus .ensures)
 
 convert-lr-requires : tie.Need-convert-lr-requires
-convert-lr-requires c κs = staged-ready (escape-set-braces-requires (c .before .before .before .before) κs) (c .before .before .before .escape-set-braces .ensures)
+convert-lr-requires c κs =
+    let at-escape-set-braces-arg : tie.After-escape-set-braces-arg = search in
+    staged-ready (escape-set-braces-requires at-escape-set-braces-arg κs) (c .before .before .before .escape-set-braces .ensures)
 
 size-delimiters-to-content-requires : tie.Need-size-delimiters-to-content-requires
-size-delimiters-to-content-requires c κs = staged-ready (convert-lr-requires (c .before .before .before .before) κs) (c .before .before .before .convert-lr .ensures)
+size-delimiters-to-content-requires c κs =
+    let at-convert-lr-arg : tie.After-convert-lr-arg = search in
+    staged-ready (convert-lr-requires at-convert-lr-arg κs) (c .before .before .before .convert-lr .ensures)
 
 escape-percent-requires : tie.Need-escape-percent-requires
-escape-percent-requires c κs = staged-ready (size-delimiters-to-content-requires (c .before .before .before .before) κs) (c .before .before .before .size-delimiters-to-content .ensures)
+escape-percent-requires c κs =
+    let at-size-delimiters-to-content-arg : tie.After-size-delimiters-to-content-arg = search in
+    staged-ready (size-delimiters-to-content-requires at-size-delimiters-to-content-arg κs) (c .before .before .before .size-delimiters-to-content .ensures)
 
 returns : tie.Need-returns
 unfolding convertSyntax
 returns c =
-    let s13 = c .before .before in
-    let s12 = s13 .before .before .before .before in
-    let s11 = s12 .before .before .before .before in
-    let s10 = s11 .before .before .before .before in
-    let s9 = s10 .before .before .before .before in
-    let s8 = s9 .before .before .before .before in
-    let s7 = s8 .before .before .before .before in
-    let s6 = s7 .before .before .before .before in
-    let s5 = s6 .before .before .before .before in
-    let s4 = s5 .before .before .before .before in
-    let s3 = s4 .before .before .before .before in
-    let s2 = s3 .before .before .before .before in
-    let s1 = s2 .before .before .before .before in
+    let at-escape-percent = c .before .before in
+    let at-size-delimiters-to-content : tie.After-size-delimiters-to-content = search in
+    let at-convert-lr : tie.After-convert-lr = search in
+    let at-escape-set-braces : tie.After-escape-set-braces = search in
+    let at-unmark-solidus : tie.After-unmark-solidus = search in
+    let at-convert-fractions : tie.After-convert-fractions = search in
+    let at-convert-superscripts : tie.After-convert-superscripts = search in
+    let at-convert-subscripts : tie.After-convert-subscripts = search in
+    let at-convert-greek-capitals : tie.After-convert-greek-capitals = search in
+    let at-convert-words : tie.After-convert-words = search in
+    let at-convert-operators : tie.After-convert-operators = search in
+    let at-convert-functions : tie.After-convert-functions = search in
+    let at-convert-sqrt : tie.After-convert-sqrt = search in
     answered-then
     (answered-then
     (answered-then
@@ -75,16 +98,16 @@ returns c =
     (answered-then
     (answered-then
     (answered-then
-    (answered-then (stages-before-words (s1 .convert-sqrt .ensures) (s2 .convert-functions .ensures) (s3 .convert-operators .ensures)) (s4 .convert-words .ensures))
-    (s5 .convert-greek-capitals .ensures .answered))
-    (s6 .convert-subscripts .ensures .answered))
-    (s7 .convert-superscripts .ensures .answered))
-    (s8 .convert-fractions .ensures .answered))
-    (s9 .unmark-solidus .ensures .answered))
-    (s10 .escape-set-braces .ensures .answered))
-    (s11 .convert-lr .ensures .answered))
-    (s12 .size-delimiters-to-content .ensures .answered))
-    (s13 .escape-percent .ensures .answered)
+    (answered-then (stages-before-words (at-convert-sqrt .convert-sqrt .ensures) (at-convert-functions .convert-functions .ensures) (at-convert-operators .convert-operators .ensures)) (at-convert-words .convert-words .ensures))
+    (at-convert-greek-capitals .convert-greek-capitals .ensures .answered))
+    (at-convert-subscripts .convert-subscripts .ensures .answered))
+    (at-convert-superscripts .convert-superscripts .ensures .answered))
+    (at-convert-fractions .convert-fractions .ensures .answered))
+    (at-unmark-solidus .unmark-solidus .ensures .answered))
+    (at-escape-set-braces .escape-set-braces .ensures .answered))
+    (at-convert-lr .convert-lr .ensures .answered))
+    (at-size-delimiters-to-content .size-delimiters-to-content .ensures .answered))
+    (at-escape-percent .escape-percent .ensures .answered)
 
 same-length : tie.Need-same-length
 same-length c = returns c .long

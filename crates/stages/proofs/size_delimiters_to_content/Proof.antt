@@ -7,12 +7,6 @@ use Rattle.stages.specs.Chain.{on-display, off-display}
 use Rattle.stages.proofs.size_delimiters_to_content.Statement.{statement}
 use Rattle.stages.proofs.size_delimiters_to_content.Tie as tie
 
-size-delimiters-to-content-requires : tie.Need-size-delimiters-to-content-requires
-size-delimiters-to-content-requires c κs = search needs
-
-same-length : tie.Need-same-length
-same-length c = search needs
-
 returns : tie.Need-returns
 returns c = let s = c .before .before in on-display (s .before .before .if1 .taken) (s .size-delimiters-to-content .ensures)
 
@@ -20,4 +14,4 @@ returns-2 : tie.Need-returns-2
 returns-2 c = off-display (stage sizeDelimitersToContent) (c .if1 .left) (c .before .before .pre)
 
 pub size-delimiters-to-content-spec : {M : Type 1} → statement M
-size-delimiters-to-content-spec = tie.close (tie.spec size-delimiters-to-content-requires same-length returns returns-2)
+size-delimiters-to-content-spec = tie.close (tie.spec (λ c κs. search needs) (λ c. search needs) returns returns-2)

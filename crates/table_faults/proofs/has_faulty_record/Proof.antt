@@ -19,35 +19,28 @@ Inv-loop table at₀ at = faulty (listed table 0) ≡ faulty (listed table at)
 abbrev μ-loop : tie.MeasureT-loop
 μ-loop table at₀ at = length table - at
 
-loop-holds : tie.Need-loop-holds Inv-loop μ-loop
-loop-holds c = refl
-
-record-at-requires : tie.Need-record-at-requires Inv-loop μ-loop
-record-at-requires c κs = search needs
-
-enum-known-found : tie.Need-enum-known-found Inv-loop μ-loop
-enum-known-found c = search needs
-
 returns : tie.Need-returns Inv-loop μ-loop
 unfolding faulty
 returns c = sym (c .before .before .loop .inv ∙ ap faulty (listed-none (c .before .record-at .ensures) (c .match .keys2)))
 
 -- what is known where a record has been read
 here : (c : tie.After-known-told Inv-loop μ-loop)
-    → Heads (c .before .before .before .before .before .before .args .table .now) (c .before .before .before .before .loop .at) (c .before .found .given .0 .0)
+    → (let at-loop : tie.At-loop Inv-loop μ-loop = search in let at-start : tie.Start Inv-loop μ-loop = search in Heads (at-start .args .table .now) (at-loop .loop .at) (c .before .found .given .0 .0))
 here c = heads (c .before .before .before .record-at .ensures) (c .before .found .given .1)
 
 is-faulty-record-requires : tie.Need-is-faulty-record-requires Inv-loop μ-loop
 is-faulty-record-requires c κs = here c .lies
 
 -- the record that has been read decides, if it is faulty, and else those behind it
-decides : (c : tie.After-is-faulty-record Inv-loop μ-loop) (t : Bool) → c .is-faulty-record .result ≡ t
-    → faulty (listed (c .before .before .before .before .before .before .before .args .table .now) 0)
-    ≡ (t || faulty (listed (c .before .before .before .before .before .before .before .args .table .now) (c .before .before .found .given .0 .0 .next)))
+decides : (c : tie.After-is-faulty-record Inv-loop μ-loop) (t : Bool) → (let at-start : tie.Start Inv-loop μ-loop = search in c .is-faulty-record .result ≡ t
+    → faulty (listed (at-start .args .table .now) 0)
+    ≡ (t || faulty (listed (at-start .args .table .now) (c .before .before .found .given .0 .0 .next))))
 decides c t e =
-    let s = c .before .before .before .before .before .before .before .args .table .now in
+    let at-loop : tie.At-loop Inv-loop μ-loop = search in
+    let at-start : tie.Start Inv-loop μ-loop = search in
+    let s = at-start .args .table .now in
     let found = c .before .before .found .given .0 .0 in
-    c .before .before .before .before .before .loop .inv
+    at-loop .loop .inv
     ∙ ap faulty (here (c .before) .first)
     ∙ faulty-cons (definitionAt s found) (listed s (found .next))
     ∙ ap (λ u. u || faulty (listed s (found .next))) (sym (c .is-faulty-record .ensures) ∙ e)
@@ -67,9 +60,9 @@ has-faulty-record-spec =
     (tie.spec
     Inv-loop
     μ-loop
-    loop-holds
-    record-at-requires
-    enum-known-found
+    (λ c. refl)
+    (λ c κs. search needs)
+    (λ c. search needs)
     returns
     is-faulty-record-requires
     returns-2

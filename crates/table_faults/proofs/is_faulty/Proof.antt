@@ -12,25 +12,21 @@ use Rattle.table_faults.proofs.is_faulty.Tie as tie
 returns : tie.Need-returns
 returns c = sym (refused-long (c .before .before .args .table .now) (c .if1 .taken))
 
-is-overfull-requires : tie.Need-is-overfull-requires
-is-overfull-requires c κs = search needs
-
 returns-2 : tie.Need-returns-2
 returns-2 c =
-    let s = c .before .before .before .before .args .table .now in
+    let at-start : tie.Start = search in
+    let s = at-start .args .table .now in
     sym (refused-else s (omega arith) ∙ ap (λ t. t || faulty (listed s 0)) (sym (c .before .is-overfull .ensures) ∙ c .if2 .taken))
-
-has-faulty-record-requires : tie.Need-has-faulty-record-requires
-has-faulty-record-requires c κs = search needs
 
 returns-3 : tie.Need-returns-3
 returns-3 c =
-    let test = c .before in
-    let s = test .before .before .before .before .args .table .now in
+    let else2 = c .before in
+    let at-start : tie.Start = search in
+    let s = at-start .args .table .now in
     c .has-faulty-record .ensures
-    ∙ sym (refused-else s (omega arith) ∙ ap (λ t. t || faulty (listed s 0)) (sym (test .before .is-overfull .ensures) ∙ test .if2 .left))
+    ∙ sym (refused-else s (omega arith) ∙ ap (λ t. t || faulty (listed s 0)) (sym (else2 .before .is-overfull .ensures) ∙ else2 .if2 .left))
 
 pub is-faulty-spec : {M : Type 1} → statement M
 is-faulty-spec =
     tie.close
-    (tie.spec returns is-overfull-requires returns-2 has-faulty-record-requires returns-3)
+    (tie.spec returns (λ c κs. search needs) returns-2 (λ c κs. search needs) returns-3)

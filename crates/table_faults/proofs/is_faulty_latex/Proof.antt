@@ -23,35 +23,23 @@ abbrev μ-loop : tie.MeasureT-loop
 loop-holds : tie.Need-loop-holds Inv-loop μ-loop
 loop-holds c = (omega arith, refl, refl)
 
-shared-slice-read-b : tie.Need-shared-slice-read-b Inv-loop μ-loop
-shared-slice-read-b c = omega arith
-
-is-foreign-requires : tie.Need-is-foreign-requires Inv-loop μ-loop
-is-foreign-requires c κs = search needs
-
 returns : tie.Need-returns Inv-loop μ-loop
 returns c =
-    let l = c .before .before .before .before in
-    let s = l .before .before .args .latex .now in
-    let e = ap (λ t. t || is "$" (getD s (l .loop .i) 0)) (sym (c .before .is-foreign .ensures)) ∙ c .if1 .taken in
-    sym (l .loop .inv .2 ∙ any-stop wrong s (l .loop .i) (omega arith) e)
-
-add-i : tie.Need-add-i Inv-loop μ-loop
-add-i c = omega arith
-
-loop-less : tie.Need-loop-less Inv-loop μ-loop
-loop-less c = omega arith
+    let at-loop : tie.At-loop Inv-loop μ-loop = search in
+    let s = at-loop .before .before .args .latex .now in
+    let e = ap (λ t. t || is "$" (getD s (at-loop .loop .i) 0)) (sym (c .before .is-foreign .ensures)) ∙ c .if1 .taken in
+    sym (at-loop .loop .inv .2 ∙ any-stop wrong s (at-loop .loop .i) (omega arith) e)
 
 loop-again : tie.Need-loop-again Inv-loop μ-loop
 loop-again c =
-    let l = c .before .before .before .before in
-    let s = l .before .before .args .latex .now in
-    let e = ap (λ t. t || is "$" (getD s (l .loop .i) 0)) (sym (c .before .is-foreign .ensures)) ∙ c .if1 .left in
-    (omega arith, refl, l .loop .inv .2 ∙ any-more wrong s (l .loop .i) (omega arith) e)
+    let at-loop : tie.At-loop Inv-loop μ-loop = search in
+    let s = at-loop .before .before .args .latex .now in
+    let e = ap (λ t. t || is "$" (getD s (at-loop .loop .i) 0)) (sym (c .before .is-foreign .ensures)) ∙ c .if1 .left in
+    (omega arith, refl, at-loop .loop .inv .2 ∙ any-more wrong s (at-loop .loop .i) (omega arith) e)
 
 returns-2 : tie.Need-returns-2 Inv-loop μ-loop
 returns-2 c = let l = c .before in sym (l .loop .inv .2 ∙ any-end wrong (l .before .before .args .latex .now) (l .loop .i) (omega arith))
 
 pub is-faulty-latex-spec : {M : Type 1} → statement M
 is-faulty-latex-spec =
-    tie.close (tie.spec Inv-loop μ-loop loop-holds shared-slice-read-b is-foreign-requires returns add-i loop-less loop-again returns-2)
+    tie.close (tie.spec Inv-loop μ-loop loop-holds (λ c. omega arith) (λ c κs. search needs) returns (λ c. omega arith) (λ c. omega arith) loop-again returns-2)

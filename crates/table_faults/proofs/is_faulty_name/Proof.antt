@@ -19,12 +19,6 @@ Inv-loop name i₀ i-end i = (i ≤ length name) × (i-end ≡ length name) × (
 abbrev μ-loop : tie.MeasureT-loop
 μ-loop name i₀ i-end i = length name - i
 
-symbol-requires : tie.Need-symbol-requires Inv-loop μ-loop
-symbol-requires c κs = search needs
-
-is-letter-requires : tie.Need-is-letter-requires Inv-loop μ-loop
-is-letter-requires c κs = search needs
-
 returns : tie.Need-returns Inv-loop μ-loop
 returns c =
     let first = c .before .before in
@@ -37,37 +31,28 @@ loop-holds c =
     let e = ap letter (sym (first .symbol .ensures)) ∙ sym (c .before .is-letter .ensures) ∙ not-false _ (c .if1 .left) in
     (omega arith, refl, faulty-within (first .before .before .args .name .now) e)
 
-shared-slice-read-is-alnum : tie.Need-shared-slice-read-is-alnum Inv-loop μ-loop
-shared-slice-read-is-alnum c = omega arith
-
-is-alnum-requires : tie.Need-is-alnum-requires Inv-loop μ-loop
-is-alnum-requires c κs = search needs
-
 returns-2 : tie.Need-returns-2 Inv-loop μ-loop
 returns-2 c =
-    let l = c .before .before .before .before in
-    let s = l .before .before .before .before .before .args .name .now in
+    let at-loop : tie.At-loop Inv-loop μ-loop = search in
+    let at-start : tie.Start Inv-loop μ-loop = search in
+    let s = at-start .args .name .now in
     let e = sym (c .before .is-alnum .ensures) ∙ not-true _ (c .if2 .taken) in
-    sym (l .loop .inv .2 ∙ ap not (all-stop alnum s (l .loop .i) (omega arith) e))
-
-add-i : tie.Need-add-i Inv-loop μ-loop
-add-i c = omega arith
-
-loop-less : tie.Need-loop-less Inv-loop μ-loop
-loop-less c = omega arith
+    sym (at-loop .loop .inv .2 ∙ ap not (all-stop alnum s (at-loop .loop .i) (omega arith) e))
 
 loop-again : tie.Need-loop-again Inv-loop μ-loop
 loop-again c =
-    let l = c .before .before .before .before in
-    let s = l .before .before .before .before .before .args .name .now in
+    let at-loop : tie.At-loop Inv-loop μ-loop = search in
+    let at-start : tie.Start Inv-loop μ-loop = search in
+    let s = at-start .args .name .now in
     let e = sym (c .before .is-alnum .ensures) ∙ not-false _ (c .if2 .left) in
-    (omega arith, refl, l .loop .inv .2 ∙ ap not (all-more alnum s (l .loop .i) (omega arith) e))
+    (omega arith, refl, at-loop .loop .inv .2 ∙ ap not (all-more alnum s (at-loop .loop .i) (omega arith) e))
 
 returns-3 : tie.Need-returns-3 Inv-loop μ-loop
 returns-3 c =
-    let l = c .before in
-    let s = l .before .before .before .before .before .args .name .now in
-    sym (l .loop .inv .2 ∙ ap not (all-end alnum s (l .loop .i) (omega arith)))
+    let at-loop = c .before in
+    let at-start : tie.Start Inv-loop μ-loop = search in
+    let s = at-start .args .name .now in
+    sym (at-loop .loop .inv .2 ∙ ap not (all-end alnum s (at-loop .loop .i) (omega arith)))
 
 pub is-faulty-name-spec : {M : Type 1} → statement M
 is-faulty-name-spec =
@@ -75,14 +60,14 @@ is-faulty-name-spec =
     (tie.spec
     Inv-loop
     μ-loop
-    symbol-requires
-    is-letter-requires
+    (λ c κs. search needs)
+    (λ c κs. search needs)
     returns
     loop-holds
-    shared-slice-read-is-alnum
-    is-alnum-requires
+    (λ c. omega arith)
+    (λ c κs. search needs)
     returns-2
-    add-i
-    loop-less
+    (λ c. omega arith)
+    (λ c. omega arith)
     loop-again
     returns-3)

@@ -17,15 +17,6 @@ Inv-loop table from name at₀ at = named name (listed table from) ≡ named nam
 abbrev μ-loop : tie.MeasureT-loop
 μ-loop table from name at₀ at = length table - at
 
-loop-holds : tie.Need-loop-holds Inv-loop μ-loop
-loop-holds c = refl
-
-record-at-requires : tie.Need-record-at-requires Inv-loop μ-loop
-record-at-requires c κs = search needs
-
-enum-known-found : tie.Need-enum-known-found Inv-loop μ-loop
-enum-known-found c = search needs
-
 returns : tie.Need-returns Inv-loop μ-loop
 returns c =
     let l = c .before .before in
@@ -33,7 +24,7 @@ returns c =
 
 -- what is known where a record has been read
 here : (c : tie.After-known-told Inv-loop μ-loop)
-    → Heads (c .before .before .before .before .before .before .before .args .table .now) (c .before .before .before .before .loop .at) (c .before .found .given .0 .0)
+    → (let at-loop : tie.At-loop Inv-loop μ-loop = search in let at-start : tie.Start Inv-loop μ-loop = search in Heads (at-start .args .table .now) (at-loop .loop .at) (c .before .found .given .0 .0))
 here c = heads (c .before .before .before .record-at .ensures) (c .before .found .given .1)
 
 sub-is-same : tie.Need-sub-is-same Inv-loop μ-loop
@@ -45,25 +36,26 @@ part-is-same-start c = let h = here c .lies in omega arith
 part-is-same-end : tie.Need-part-is-same-end Inv-loop μ-loop
 part-is-same-end c = let h = here c .lies in omega arith
 
-is-same-requires : tie.Need-is-same-requires Inv-loop μ-loop
-is-same-requires c κs = search needs
-
 returns-2 : tie.Need-returns-2 Inv-loop μ-loop
 returns-2 c =
-    let r = c .before .before .before in let l = r .before .before .before .before in let a = l .before .before .before .args in
-    let found = r .before .found .given .0 .0 in
+    let at-known-told = c .before .before .before in
+    let at-loop : tie.At-loop Inv-loop μ-loop = search in
+    let a = at-loop .before .before .before .args in
+    let found = at-known-told .before .found .given .0 .0 in
     let e = sym (c .before .is-same .ensures) ∙ c .if1 .taken in
-    sym (l .loop .inv ∙ ap (named (a .name .now)) (here r .first) ∙ ap (λ t. t || named (a .name .now) (listed (a .table .now) (found .next))) e)
+    sym (at-loop .loop .inv ∙ ap (named (a .name .now)) (here at-known-told .first) ∙ ap (λ t. t || named (a .name .now) (listed (a .table .now) (found .next))) e)
 
 loop-less : tie.Need-loop-less Inv-loop μ-loop
 loop-less c = let h = here (c .before .before .before) in let b = h .behind in let p = h .lies in omega arith
 
 loop-again : tie.Need-loop-again Inv-loop μ-loop
 loop-again c =
-    let r = c .before .before .before in let l = r .before .before .before .before in let a = l .before .before .before .args in
-    let found = r .before .found .given .0 .0 in
+    let at-known-told = c .before .before .before in
+    let at-loop : tie.At-loop Inv-loop μ-loop = search in
+    let a = at-loop .before .before .before .args in
+    let found = at-known-told .before .found .given .0 .0 in
     let e = sym (c .before .is-same .ensures) ∙ c .if1 .left in
-    l .loop .inv ∙ ap (named (a .name .now)) (here r .first) ∙ ap (λ t. t || named (a .name .now) (listed (a .table .now) (found .next))) e
+    at-loop .loop .inv ∙ ap (named (a .name .now)) (here at-known-told .first) ∙ ap (λ t. t || named (a .name .now) (listed (a .table .now) (found .next))) e
 
 pub is-named-spec : {M : Type 1} → statement M
 is-named-spec =
@@ -71,14 +63,14 @@ is-named-spec =
     (tie.spec
     Inv-loop
     μ-loop
-    loop-holds
-    record-at-requires
-    enum-known-found
+    (λ c. refl)
+    (λ c κs. search needs)
+    (λ c. search needs)
     returns
     sub-is-same
     part-is-same-start
     part-is-same-end
-    is-same-requires
+    (λ c κs. search needs)
     returns-2
     loop-less
     loop-again)

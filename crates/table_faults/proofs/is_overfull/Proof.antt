@@ -16,18 +16,6 @@ Inv-loop table at₀ count₀ at count = overfull 0 (records table) ≡ overfull
 abbrev μ-loop : tie.MeasureT-loop
 μ-loop table at₀ count₀ at count = length table - at
 
-loop-holds : tie.Need-loop-holds Inv-loop μ-loop
-loop-holds c = refl
-
-record-at-requires : tie.Need-record-at-requires Inv-loop μ-loop
-record-at-requires c κs = search needs
-
-enum-known-found : tie.Need-enum-known-found Inv-loop μ-loop
-enum-known-found c = search needs
-
-add-count : tie.Need-add-count Inv-loop μ-loop
-add-count c = omega arith
-
 loop-less : tie.Need-loop-less Inv-loop μ-loop
 loop-less c =
     let call = c .before .before .before in
@@ -41,18 +29,12 @@ loop-again c =
     let read = sym (call .record-at .ensures .read) ∙ c .before .found .given .1 in
     l .loop .inv ∙ overfull-whole (l .before .before .args .table .now) (l .loop .at) (l .loop .count) read
 
-enum-told : tie.Need-enum-told Inv-loop μ-loop
-enum-told c = search needs
-
 returns : tie.Need-returns Inv-loop μ-loop
 returns c =
     let call = c .before .before in
     let l = call .before .before in
     let read = sym (call .record-at .ensures .read) ∙ c .enum-told .given .1 in
     sym (l .loop .inv ∙ overfull-end (l .before .before .args .table .now) (l .loop .at) (l .loop .count) (omega arith) read)
-
-enum-told-2 : tie.Need-enum-told-2 Inv-loop μ-loop
-enum-told-2 c = search needs
 
 returns-2 : tie.Need-returns-2 Inv-loop μ-loop
 returns-2 c =
@@ -72,14 +54,14 @@ is-overfull-spec =
     (tie.spec
     Inv-loop
     μ-loop
-    loop-holds
-    record-at-requires
-    enum-known-found
-    add-count
+    (λ c. refl)
+    (λ c κs. search needs)
+    (λ c. search needs)
+    (λ c. omega arith)
     loop-less
     loop-again
-    enum-told
+    (λ c. search needs)
     returns
-    enum-told-2
+    (λ c. search needs)
     returns-2
     returns-3)

@@ -19,32 +19,20 @@ Inv-loop s opener closer tally₀ i₀ tally i =
 abbrev μ-loop : tie.MeasureT-loop
 μ-loop s opener closer tally₀ i₀ tally i = i
 
-new-requires : tie.Need-new-requires Inv-loop μ-loop
-new-requires c κs = search needs
-
 loop-holds : tie.Need-loop-holds Inv-loop μ-loop
 loop-holds c =
     let a = c .before .before .args in
     rw (c .new .ensures) (omega arith, refl, refl, omega arith, omega arith, ap (close (a .opener) (a .closer) 0) (sym (before-all (a .s .now))))
 
-sub-i : tie.Need-sub-i Inv-loop μ-loop
-sub-i c = omega arith
-
-shared-slice-read-step : tie.Need-shared-slice-read-step Inv-loop μ-loop
-shared-slice-read-step c = omega arith
-
-step-requires : tie.Need-step-requires Inv-loop μ-loop
-step-requires c κs = omega arith
-
 returns : tie.Need-returns Inv-loop μ-loop
 returns c =
-    let l = c .before .before .before .before .before in
-    let a = l .before .before .before .args in
-    let inv = l .loop .inv in
-    let i = l .loop .i in
-    let d = l .loop .tally .depth in
+    let at-loop : tie.At-loop Inv-loop μ-loop = search in
+    let a = at-loop .before .before .before .args in
+    let inv = at-loop .loop .inv in
+    let i = at-loop .loop .i in
+    let d = at-loop .loop .tally .depth in
     let x = getD (a .s .now) (i - 1) 0 in
-    let depth = depth-stepped (l .loop .tally) x (inv .1) (inv .2) (c .before .before .step .ensures) in
+    let depth = depth-stepped (at-loop .loop .tally) x (inv .1) (inv .2) (c .before .before .step .ensures) in
     record {
       within = omega arith;
       left =
@@ -52,25 +40,22 @@ returns c =
           ∙ close-here (a .opener) (a .closer) d x (before (a .s .now) (i - 1)) (inv .3) (sym depth ∙ c .if1 .taken));
     }
 
-loop-less : tie.Need-loop-less Inv-loop μ-loop
-loop-less c = omega arith
-
 loop-again : tie.Need-loop-again Inv-loop μ-loop
 loop-again c =
-    let l = c .before .before .before .before .before in
-    let a = l .before .before .before .args in
-    let inv = l .loop .inv in
-    let i = l .loop .i in
-    let d = l .loop .tally .depth in
+    let at-loop : tie.At-loop Inv-loop μ-loop = search in
+    let a = at-loop .before .before .before .args in
+    let inv = at-loop .loop .inv in
+    let i = at-loop .loop .i in
+    let d = at-loop .loop .tally .depth in
     let x = getD (a .s .now) (i - 1) 0 in
     let rest = before (a .s .now) (i - 1) in
     let step = c .before .before .step .ensures in
-    let depth = depth-stepped (l .loop .tally) x (inv .1) (inv .2) step in
+    let depth = depth-stepped (at-loop .loop .tally) x (inv .1) (inv .2) step in
     let more = depth-more (a .opener) (a .closer) d x rest (inv .3) in
     let deep : 0 < c .before .before .step .result .depth = omega arith in (
       omega arith,
-      opener-kept (l .loop .tally) x (inv .1) (inv .2) step,
-      closer-kept (l .loop .tally) x (inv .1) (inv .2) step,
+      opener-kept (at-loop .loop .tally) x (inv .1) (inv .2) step,
+      closer-kept (at-loop .loop .tally) x (inv .1) (inv .2) step,
       deep,
       omega arith,
       inv .5 ∙ ap (closeFrom (a .opener) (a .closer) d) (before-step (a .s .now) i (omega arith) (omega arith))
@@ -92,12 +77,12 @@ find-closer-back-spec =
     (tie.spec
     Inv-loop
     μ-loop
-    new-requires
+    (λ c κs. search needs)
     loop-holds
-    sub-i
-    shared-slice-read-step
-    step-requires
+    (λ c. omega arith)
+    (λ c. omega arith)
+    (λ c κs. omega arith)
     returns
-    loop-less
+    (λ c. omega arith)
     loop-again
     returns-2)

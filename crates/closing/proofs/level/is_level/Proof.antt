@@ -19,52 +19,37 @@ Inv-loop s opener closer tally₀ i₀ tally i =
 abbrev μ-loop : tie.MeasureT-loop
 μ-loop s opener closer tally₀ i₀ tally i = length s - i
 
-new-requires : tie.Need-new-requires Inv-loop μ-loop
-new-requires c κs = search needs
-
 loop-holds : tie.Need-loop-holds Inv-loop μ-loop
 loop-holds c = rw (c .new .ensures) (omega arith, refl, refl, omega arith, omega arith, refl)
 
-shared-slice-read-step : tie.Need-shared-slice-read-step Inv-loop μ-loop
-shared-slice-read-step c = omega arith
-
-step-requires : tie.Need-step-requires Inv-loop μ-loop
-step-requires c κs = omega arith
-
 returns : tie.Need-returns Inv-loop μ-loop
 returns c =
-    let l = c .before .before .before .before .before in
-    let a = l .before .before .before .args in
-    let inv = l .loop .inv in
-    let i = l .loop .i in
-    let d = l .loop .tally .depth in
+    let at-loop : tie.At-loop Inv-loop μ-loop = search in
+    let a = at-loop .before .before .before .args in
+    let inv = at-loop .loop .inv in
+    let i = at-loop .loop .i in
+    let d = at-loop .loop .tally .depth in
     let x = getD (a .s .now) i 0 in
-    let depth = depth-stepped (l .loop .tally) x (inv .1) (inv .2) (c .before .before .step .ensures) in
+    let depth = depth-stepped (at-loop .loop .tally) x (inv .1) (inv .2) (c .before .before .step .ensures) in
     sym (inv .5 ∙ ap (level (a .opener) (a .closer) (d - 1)) (drop-step (a .s .now) i (omega arith))
     ∙ level-here (a .opener) (a .closer) d x (drop (i + 1) (a .s .now)) (inv .3) (sym depth ∙ c .if1 .taken))
 
-add-i : tie.Need-add-i Inv-loop μ-loop
-add-i c = omega arith
-
-loop-less : tie.Need-loop-less Inv-loop μ-loop
-loop-less c = omega arith
-
 loop-again : tie.Need-loop-again Inv-loop μ-loop
 loop-again c =
-    let l = c .before .before .before .before .before in
-    let a = l .before .before .before .args in
-    let inv = l .loop .inv in
-    let i = l .loop .i in
-    let d = l .loop .tally .depth in
+    let at-loop : tie.At-loop Inv-loop μ-loop = search in
+    let a = at-loop .before .before .before .args in
+    let inv = at-loop .loop .inv in
+    let i = at-loop .loop .i in
+    let d = at-loop .loop .tally .depth in
     let x = getD (a .s .now) i 0 in
     let rest = drop (i + 1) (a .s .now) in
     let step = c .before .before .step .ensures in
-    let depth = depth-stepped (l .loop .tally) x (inv .1) (inv .2) step in
+    let depth = depth-stepped (at-loop .loop .tally) x (inv .1) (inv .2) step in
     let more = depth-more (a .opener) (a .closer) d x rest (inv .3) in
     let deep : 0 < c .before .before .step .result .depth = omega arith in (
       omega arith,
-      opener-kept (l .loop .tally) x (inv .1) (inv .2) step,
-      closer-kept (l .loop .tally) x (inv .1) (inv .2) step,
+      opener-kept (at-loop .loop .tally) x (inv .1) (inv .2) step,
+      closer-kept (at-loop .loop .tally) x (inv .1) (inv .2) step,
       deep,
       omega arith,
       inv .5 ∙ ap (level (a .opener) (a .closer) (d - 1)) (drop-step (a .s .now) i (omega arith))
@@ -84,12 +69,12 @@ is-level-spec =
     (tie.spec
     Inv-loop
     μ-loop
-    new-requires
+    (λ c κs. search needs)
     loop-holds
-    shared-slice-read-step
-    step-requires
+    (λ c. omega arith)
+    (λ c κs. omega arith)
     returns
-    add-i
-    loop-less
+    (λ c. omega arith)
+    (λ c. omega arith)
     loop-again
     returns-2)

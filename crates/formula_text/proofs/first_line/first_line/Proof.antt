@@ -9,25 +9,10 @@ use Rattle.formula_text.proofs.first_line.first_line.Tie as tie
 returns : tie.Need-returns
 returns c = first-none (c .before .before .args .input .now) (c .if1 .taken)
 
-shared-slice-read-display : tie.Need-shared-slice-read-display
-shared-slice-read-display c = search needs
-
-display-requires : tie.Need-display-requires
-display-requires c κs = search needs
-
 returns-2 : tie.Need-returns-2
 returns-2 c =
     let alone = c .before .before in
     c .display .ensures ∙ first-alone (alone .before .before .before .args .input .now) (alone .if2 .taken)
-
-shared-slice-read-if3 : tie.Need-shared-slice-read-if3
-shared-slice-read-if3 c = search needs
-
-shared-slice-read-display-2 : tie.Need-shared-slice-read-display-2
-shared-slice-read-display-2 c = search needs
-
-display-requires-2 : tie.Need-display-requires-2
-display-requires-2 c κs = search needs
 
 returns-3 : tie.Need-returns-3
 returns-3 c =
@@ -45,11 +30,11 @@ first-line-spec =
     tie.close
     (tie.spec
     returns
-    shared-slice-read-display
-    display-requires
+    (λ c. search needs)
+    (λ c κs. search needs)
     returns-2
-    shared-slice-read-if3
-    shared-slice-read-display-2
-    display-requires-2
+    (λ c. search needs)
+    (λ c. search needs)
+    (λ c κs. search needs)
     returns-3
     returns-4)

@@ -8,23 +8,11 @@ use borrow.Author.Needs.{needs}
 use Rattle.formula_text.proofs.first_line.formula.Statement.{statement}
 use Rattle.formula_text.proofs.first_line.formula.Tie as tie
 
-slice-aggregate-result : tie.Need-slice-aggregate-result
-slice-aggregate-result c = search needs
-
 returns : tie.Need-returns
 returns c =
     let s = c .before .before .args .input .now in
     let short : length s ≤ 2 = omega arith in
     sym (drop-of-length-le s short)
-
-sub-result : tie.Need-sub-result
-sub-result c = search needs
-
-part-result-start : tie.Need-part-result-start
-part-result-start c = search needs
-
-part-result-end : tie.Need-part-result-end
-part-result-end c = search needs
 
 returns-2 : tie.Need-returns-2
 returns-2 c = rest-of 2 (c .before .before .args .input .now)
@@ -33,9 +21,9 @@ pub formula-spec : {M : Type 1} → statement M
 formula-spec =
     tie.close
     (tie.spec
-    slice-aggregate-result
+    (λ c. search needs)
     returns
-    sub-result
-    part-result-start
-    part-result-end
+    (λ c. search needs)
+    (λ c. search needs)
+    (λ c. search needs)
     returns-2)

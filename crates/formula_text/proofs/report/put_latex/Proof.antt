@@ -34,18 +34,6 @@ counted c =
     let few = four-digits (length (s .args .latex .now)) (omega arith) in
     omega arith
 
-slice-aggregate-put : tie.Need-slice-aggregate-put
-slice-aggregate-put c = search needs
-
-put-requires : tie.Need-put-requires
-put-requires c κs = search needs
-
-put-decimal-requires : tie.Need-put-decimal-requires
-put-decimal-requires c κs = search needs
-
-slice-aggregate-put-2 : tie.Need-slice-aggregate-put-2
-slice-aggregate-put-2 c = search needs
-
 put-requires-2 : tie.Need-put-requires-2
 put-requires-2 c κs = let known = c .before .before in let few = counted (known .before .before) in omega arith
 
@@ -57,9 +45,6 @@ put-requires-3 c κs =
     let s = start (after-ok (after-count p)) in
     omega arith
 
-slice-aggregate-put-3 : tie.Need-slice-aggregate-put-3
-slice-aggregate-put-3 c = search needs
-
 put-requires-4 : tie.Need-put-requires-4
 put-requires-4 c κs =
     let known = c .before .before in
@@ -70,9 +55,6 @@ put-requires-4 c κs =
     let all = l .put3 .ensures .counted in
     let s = start (after-ok (after-count p)) in
     omega arith
-
-same-length : tie.Need-same-length
-same-length c = search needs
 
 returns : tie.Need-returns
 returns c =
@@ -89,13 +71,13 @@ pub put-latex-spec : {M : Type 1} → statement M
 put-latex-spec =
     tie.close
     (tie.spec
-    slice-aggregate-put
-    put-requires
-    put-decimal-requires
-    slice-aggregate-put-2
+    (λ c. search needs)
+    (λ c κs. search needs)
+    (λ c κs. search needs)
+    (λ c. search needs)
     put-requires-2
     put-requires-3
-    slice-aggregate-put-3
+    (λ c. search needs)
     put-requires-4
-    same-length
+    (λ c. search needs)
     returns)

@@ -25,46 +25,33 @@ returns c =
 loop-holds : tie.Need-loop-holds Inv-loop μ-loop
 loop-holds c = (omega arith, record { so-far = refl })
 
-add-if2 : tie.Need-add-if2 Inv-loop μ-loop
-add-if2 c = omega arith
-
-shared-slice-read-if2 : tie.Need-shared-slice-read-if2 Inv-loop μ-loop
-shared-slice-read-if2 c = omega arith
-
-add-if2-2 : tie.Need-add-if2-2 Inv-loop μ-loop
-add-if2-2 c = omega arith
-
-shared-slice-read-if2-2 : tie.Need-shared-slice-read-if2-2 Inv-loop μ-loop
-shared-slice-read-if2-2 c = omega arith
-
 returns-2 : tie.Need-returns-2 Inv-loop μ-loop
 returns-2 c =
-    let a = c .before .before .before .before .before .before .args in
+    let at-loop : tie.At-loop Inv-loop μ-loop = search in
+    let else1 : tie.Else1 Inv-loop μ-loop = search in
+    let at-start : tie.Start Inv-loop μ-loop = search in
+    let a = at-start .args in
     let w = a .work .now in
     let lx = length-part (a .to) (a .n) w (omega arith) in
     let ly = length-part (a .from) (a .n) w (omega arith) in
-    let i = c .before .before .before .before .loop .i in
+    let i = at-loop .loop .i in
     let gx = getD-part (a .to) (a .n) w i (omega arith) in
     let gy = getD-part (a .from) (a .n) w i (omega arith) in
     let other = c .if2 .taken in
-    sym (ap (λ b. cond b (same (part (a .to) (a .n) w) (part (a .from) (a .n) w)) false) (eq-eqb _ _ (c .before .before .before .before .before .if1 .left)) ∙ agree-not (c .before .before .before .before .loop .inv .1) (omega arith) (omega arith) (λ e. other (sym gx ∙ e ∙ gy)))
-
-add-i : tie.Need-add-i Inv-loop μ-loop
-add-i c = omega arith
-
-loop-less : tie.Need-loop-less Inv-loop μ-loop
-loop-less c = omega arith
+    sym (ap (λ b. cond b (same (part (a .to) (a .n) w) (part (a .from) (a .n) w)) false) (eq-eqb _ _ (else1 .if1 .left)) ∙ agree-not (at-loop .loop .inv .1) (omega arith) (omega arith) (λ e. other (sym gx ∙ e ∙ gy)))
 
 loop-again : tie.Need-loop-again Inv-loop μ-loop
 loop-again c =
-    let a = c .before .before .before .before .before .before .args in
+    let at-loop : tie.At-loop Inv-loop μ-loop = search in
+    let at-start : tie.Start Inv-loop μ-loop = search in
+    let a = at-start .args in
     let w = a .work .now in
     let lx = length-part (a .to) (a .n) w (omega arith) in
     let ly = length-part (a .from) (a .n) w (omega arith) in
-    let i = c .before .before .before .before .loop .i in
+    let i = at-loop .loop .i in
     let gx = getD-part (a .to) (a .n) w i (omega arith) in
     let gy = getD-part (a .from) (a .n) w i (omega arith) in
-    (omega arith, agree-more (c .before .before .before .before .loop .inv .1) (omega arith) (omega arith) (gx ∙ c .if2 .left ∙ sym gy))
+    (omega arith, agree-more (at-loop .loop .inv .1) (omega arith) (omega arith) (gx ∙ c .if2 .left ∙ sym gy))
 
 returns-3 : tie.Need-returns-3 Inv-loop μ-loop
 returns-3 c =
@@ -82,12 +69,12 @@ is-same-spec =
     μ-loop
     returns
     loop-holds
-    add-if2
-    shared-slice-read-if2
-    add-if2-2
-    shared-slice-read-if2-2
+    (λ c. omega arith)
+    (λ c. omega arith)
+    (λ c. omega arith)
+    (λ c. omega arith)
     returns-2
-    add-i
-    loop-less
+    (λ c. omega arith)
+    (λ c. omega arith)
     loop-again
     returns-3)

@@ -12,75 +12,59 @@ use native.Mathlib.Omega.{arith}
 use Rattle.fractions.proofs.settle.convert_fractions.Statement.{statement}
 use Rattle.fractions.proofs.settle.convert_fractions.Tie as tie
 
-enum-known-progress : tie.Need-enum-known-progress
-enum-known-progress c = search needs
-
-enum-told : tie.Need-enum-told
-enum-told c = search needs
-
 returns : tie.Need-returns
 returns c = staged-refused convertFractions _ (c .enum-told .given .1)
 
 add-end : tie.Need-add-end
-add-end c = let fits = placed-fits (c .before .before .before .before .pre) (c .before .progress .given .1) in omega arith
-
-sub-find : tie.Need-sub-find
-sub-find c = omega arith
-
-part-find-start : tie.Need-part-find-start
-part-find-start c = omega arith
+add-end c =
+    let at-start : tie.Start = search in
+    let fits = placed-fits (at-start .pre) (c .before .progress .given .1) in omega arith
 
 part-find-end : tie.Need-part-find-end
-part-find-end c = let fits = placed-fits (c .before .before .before .before .before .pre) (c .before .before .progress .given .1) in let long = c .before .before .before .before .before .pre .long in omega arith
-
-slice-aggregate-find : tie.Need-slice-aggregate-find
-slice-aggregate-find c = search needs
-
-find-requires : tie.Need-find-requires
-find-requires c κs = search needs
-
-enum-known-k : tie.Need-enum-known-k
-enum-known-k c = search needs
-
-enum-told-2 : tie.Need-enum-told-2
-enum-told-2 c = search needs
-
-same-length : tie.Need-same-length
-same-length c = refl
+part-find-end c =
+    let at-start : tie.Start = search in
+    let fits = placed-fits (at-start .pre) (c .before .before .progress .given .1) in let long = at-start .pre .long in omega arith
 
 returns-2 : tie.Need-returns-2
 returns-2 c =
-    let from = c .before .before .before .before .before .before .before .progress .given .0 .0 in
-    let n = c .before .before .before .before .before .before .before .progress .given .0 .1 .0 in
-    let whole = whole-part from n (c .before .before .before .before .before .before .before .before .before .before .args .work .now) in
-    let e = c .before .before .before .before .before .before .before .progress .given .1 in
-    staged-text e (staged-slashless (ready-text e (c .before .before .before .before .before .before .before .before .before .before .pre)) (ap (find (bytes "/")) (sym whole) ∙ finds-nothing (c .before .before .find .ensures) (c .enum-told2 .given .1)))
+    let at-progress : tie.After-progress = search in
+    let at-start : tie.Start = search in
+    let from = at-progress .progress .given .0 .0 in
+    let n = at-progress .progress .given .0 .1 .0 in
+    let whole = whole-part from n (at-start .args .work .now) in
+    let e = at-progress .progress .given .1 in
+    staged-text e (staged-slashless (ready-text e (at-start .pre)) (ap (find (bytes "/")) (sym whole) ∙ finds-nothing (c .before .before .find .ensures) (c .enum-told2 .given .1)))
 
 settle-requires : tie.Need-settle-requires
-settle-requires c κs = ready-text (c .before .before .before .before .before .before .before .before .before .progress .given .1) (c .before .before .before .before .before .before .before .before .before .before .before .before .pre)
+settle-requires c κs =
+    let at-progress : tie.After-progress = search in
+    let at-start : tie.Start = search in
+    ready-text (at-progress .progress .given .1) (at-start .pre)
 
 same-length-2 : tie.Need-same-length-2
 same-length-2 c = c .before .before .settle .ensures .answered .long
 
 returns-3 : tie.Need-returns-3
-returns-3 c = staged-text (c .before .before .before .before .before .before .before .before .before .before .before .before .progress .given .1) (c .before .before .settle .ensures)
+returns-3 c =
+    let at-progress : tie.After-progress = search in
+    staged-text (at-progress .progress .given .1) (c .before .before .settle .ensures)
 
 pub convert-fractions-spec : {M : Type 1} → statement M
 convert-fractions-spec =
     tie.close
     (tie.spec
-    enum-known-progress
-    enum-told
+    (λ c. search needs)
+    (λ c. search needs)
     returns
     add-end
-    sub-find
-    part-find-start
+    (λ c. omega arith)
+    (λ c. omega arith)
     part-find-end
-    slice-aggregate-find
-    find-requires
-    enum-known-k
-    enum-told-2
-    same-length
+    (λ c. search needs)
+    (λ c κs. search needs)
+    (λ c. search needs)
+    (λ c. search needs)
+    (λ c. refl)
     returns-2
     settle-requires
     same-length-2

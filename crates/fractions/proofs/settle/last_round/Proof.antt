@@ -4,47 +4,50 @@ use borrow.Author.Needs.{needs}
 use Rattle.fractions.proofs.settle.last_round.Statement.{statement}
 use Rattle.fractions.proofs.settle.last_round.Tie as tie
 
-next-round-requires : tie.Need-next-round-requires
-next-round-requires c κs = search needs
-
-enum-told : tie.Need-enum-told
-enum-told c = search needs
-
 same-length : tie.Need-same-length
-same-length c = c .before .before .before .before .next-round .ensures .wrote .long
+same-length c =
+    let at-next-round : tie.After-next-round = search in
+    at-next-round .next-round .ensures .wrote .long
 
 returns : tie.Need-returns
-returns c = last-unchanged (c .before .before .before .before .before .before .before .pre) (c .before .before .before .before .next-round .ensures) (c .enum-told .given .1)
-
-enum-known-round : tie.Need-enum-known-round
-enum-known-round c = search needs
+returns c =
+    let at-next-round : tie.After-next-round = search in
+    let at-start : tie.Start = search in
+    last-unchanged (at-start .pre) (at-next-round .next-round .ensures) (c .enum-told .given .1)
 
 same-length-2 : tie.Need-same-length-2
-same-length-2 c = c .before .before .before .before .before .next-round .ensures .wrote .long
+same-length-2 c =
+    let at-next-round : tie.After-next-round = search in
+    at-next-round .next-round .ensures .wrote .long
 
 returns-2 : tie.Need-returns-2
-returns-2 c = last-changed (c .before .before .before .before .before .before .before .before .pre) (c .before .before .before .before .before .next-round .ensures) (c .before .round .given .1)
-
-enum-told-2 : tie.Need-enum-told-2
-enum-told-2 c = search needs
+returns-2 c =
+    let at-next-round : tie.After-next-round = search in
+    let at-start : tie.Start = search in
+    last-changed (at-start .pre) (at-next-round .next-round .ensures) (c .before .round .given .1)
 
 same-length-3 : tie.Need-same-length-3
-same-length-3 c = c .before .before .before .before .next-round .ensures .wrote .long
+same-length-3 c =
+    let at-next-round : tie.After-next-round = search in
+    at-next-round .next-round .ensures .wrote .long
 
 returns-3 : tie.Need-returns-3
-returns-3 c = last-barred (c .before .before .before .before .before .before .before .pre) (c .before .before .before .before .next-round .ensures) (c .enum-told2 .given .1)
+returns-3 c =
+    let at-next-round : tie.After-next-round = search in
+    let at-start : tie.Start = search in
+    last-barred (at-start .pre) (at-next-round .next-round .ensures) (c .enum-told2 .given .1)
 
 pub last-round-spec : {M : Type 1} → statement M
 last-round-spec =
     tie.close
     (tie.spec
-    next-round-requires
-    enum-told
+    (λ c κs. search needs)
+    (λ c. search needs)
     same-length
     returns
-    enum-known-round
+    (λ c. search needs)
     same-length-2
     returns-2
-    enum-told-2
+    (λ c. search needs)
     same-length-3
     returns-3)

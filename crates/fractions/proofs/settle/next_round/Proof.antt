@@ -19,59 +19,61 @@ sub-to c = let p = placed-fits (c .before .pre) refl in let q = placed-text (c .
 convert-regular-fractions-requires : tie.Need-convert-regular-fractions-requires
 convert-regular-fractions-requires c κs = (placed-regions (c .before .before .pre) refl, placed-text (c .before .before .pre) refl .1)
 
-enum-known-count : tie.Need-enum-known-count
-enum-known-count c = search needs
-
-enum-told : tie.Need-enum-told
-enum-told c = search needs
-
 same-length : tie.Need-same-length
-same-length c = c .before .before .before .before .convert-regular-fractions .ensures .wrote .long
+same-length c =
+    let at-convert-regular-fractions : tie.After-convert-regular-fractions = search in
+    at-convert-regular-fractions .convert-regular-fractions .ensures .wrote .long
 
 returns : tie.Need-returns
-returns c = step-barred (c .before .before .before .before .before .before .before .pre) (c .before .before .before .before .convert-regular-fractions .ensures) (c .enum-told .given .1)
-
-sub-is-same : tie.Need-sub-is-same
-sub-is-same c = search needs
-
-part-is-same-start : tie.Need-part-is-same-start
-part-is-same-start c = search needs
-
-part-is-same-end : tie.Need-part-is-same-end
-part-is-same-end c = search needs
+returns c =
+    let at-convert-regular-fractions : tie.After-convert-regular-fractions = search in
+    let at-start : tie.Start = search in
+    step-barred (at-start .pre) (at-convert-regular-fractions .convert-regular-fractions .ensures) (c .enum-told .given .1)
 
 is-same-requires : tie.Need-is-same-requires
 is-same-requires c κs =
-    let regions = placed-regions (c .before .before .before .before .before .before .before .before .before .before .pre) refl in
-    let w = c .before .before .before .before .before .before .before .convert-regular-fractions .last .0 in
+    let at-convert-regular-fractions : tie.After-convert-regular-fractions = search in
+    let at-start : tie.Start = search in
+    let regions = placed-regions (at-start .pre) refl in
+    let w = at-convert-regular-fractions .convert-regular-fractions .last .0 in
     let all = ap (λ v. length v) (rest-of 0 w) in
-    let long = c .before .before .before .before .before .before .before .convert-regular-fractions .ensures .wrote .long in
+    let long = at-convert-regular-fractions .convert-regular-fractions .ensures .wrote .long in
     let source = regions .source in
     let region = regions .region in
-    let short = placed-text (c .before .before .before .before .before .before .before .before .before .before .pre) refl .1 in
+    let short = placed-text (at-start .pre) refl .1 in
     (omega arith, omega arith)
 
 same-length-2 : tie.Need-same-length-2
-same-length-2 c = c .before .before .before .before .before .before .before .before .before .convert-regular-fractions .ensures .wrote .long
+same-length-2 c =
+    let at-convert-regular-fractions : tie.After-convert-regular-fractions = search in
+    at-convert-regular-fractions .convert-regular-fractions .ensures .wrote .long
 
 returns-2 : tie.Need-returns-2
 returns-2 c =
-    let a = c .before .before .before .before .before .before .before .before .before .before .before .before .args in
-    let w = c .before .before .before .before .before .before .before .before .before .convert-regular-fractions .last .0 in
-    let count = c .before .before .before .before .before .count .given .0 .0 in
+    let at-count : tie.After-count = search in
+    let at-convert-regular-fractions : tie.After-convert-regular-fractions = search in
+    let at-start : tie.Start = search in
+    let a = at-start .args in
+    let w = at-convert-regular-fractions .convert-regular-fractions .last .0 in
+    let count = at-count .count .given .0 .0 in
     let compared = c .before .is-same .ensures ∙ ap (λ v. sameAt v (a .from) (a .n) (8192 - a .from) count) (rest-of 0 w) in
-    step-same (c .before .before .before .before .before .before .before .before .before .before .before .before .pre) (c .before .before .before .before .before .before .before .before .before .convert-regular-fractions .ensures) (c .before .before .before .before .before .count .given .1) compared (c .if1 .taken)
+    step-same (at-start .pre) (at-convert-regular-fractions .convert-regular-fractions .ensures) (at-count .count .given .1) compared (c .if1 .taken)
 
 same-length-3 : tie.Need-same-length-3
-same-length-3 c = c .before .before .before .before .before .before .before .before .before .convert-regular-fractions .ensures .wrote .long
+same-length-3 c =
+    let at-convert-regular-fractions : tie.After-convert-regular-fractions = search in
+    at-convert-regular-fractions .convert-regular-fractions .ensures .wrote .long
 
 returns-3 : tie.Need-returns-3
 returns-3 c =
-    let a = c .before .before .before .before .before .before .before .before .before .before .before .before .args in
-    let w = c .before .before .before .before .before .before .before .before .before .convert-regular-fractions .last .0 in
-    let count = c .before .before .before .before .before .count .given .0 .0 in
+    let at-count : tie.After-count = search in
+    let at-convert-regular-fractions : tie.After-convert-regular-fractions = search in
+    let at-start : tie.Start = search in
+    let a = at-start .args in
+    let w = at-convert-regular-fractions .convert-regular-fractions .last .0 in
+    let count = at-count .count .given .0 .0 in
     let compared = c .before .is-same .ensures ∙ ap (λ v. sameAt v (a .from) (a .n) (8192 - a .from) count) (rest-of 0 w) in
-    step-changed (c .before .before .before .before .before .before .before .before .before .before .before .before .pre) (c .before .before .before .before .before .before .before .before .before .convert-regular-fractions .ensures) (c .before .before .before .before .before .count .given .1) compared (c .if1 .left)
+    step-changed (at-start .pre) (at-convert-regular-fractions .convert-regular-fractions .ensures) (at-count .count .given .1) compared (c .if1 .left)
 
 pub next-round-spec : {M : Type 1} → statement M
 next-round-spec =
@@ -79,13 +81,13 @@ next-round-spec =
     (tie.spec
     sub-to
     convert-regular-fractions-requires
-    enum-known-count
-    enum-told
+    (λ c. search needs)
+    (λ c. search needs)
     same-length
     returns
-    sub-is-same
-    part-is-same-start
-    part-is-same-end
+    (λ c. search needs)
+    (λ c. search needs)
+    (λ c. search needs)
     is-same-requires
     same-length-2
     returns-2

@@ -9,34 +9,18 @@ use native.Mathlib.Omega.{arith}
 use Rattle.fractions.proofs.writing.put_converted.Statement.{statement}
 use Rattle.fractions.proofs.writing.put_converted.Tie as tie
 
-sub-pop : tie.Need-sub-pop
-sub-pop c = search needs
-
-pop-requires : tie.Need-pop-requires
-pop-requires c κs = search needs
-
-add-t11 : tie.Need-add-t11
-add-t11 c = search needs
-
-add-t12 : tie.Need-add-t12
-add-t12 c = search needs
-
-add-t11-2 : tie.Need-add-t11-2
-add-t11-2 c = search needs
-
-add-t12-2 : tie.Need-add-t12-2
-add-t12-2 c = search needs
-
 put-fraction-requires : tie.Need-put-fraction-requires
 put-fraction-requires c κs =
-    let p = c .before .before .before .before .before .before .before .before .pre in
+    let at-pop : tie.After-pop = search in
+    let at-start : tie.Start = search in
+    let p = at-start .pre in
     let ord = p .1 .1 in
     let o₁ = ord .numerator in
     let o₂ = ord .before-slash in
     let o₃ = ord .behind-slash in
     let o₄ = ord .denominator in
     let o₅ = ord .within in
-    let left = c .before .before .before .before .before .pop .ensures in
+    let left = at-pop .pop .ensures in
     let region = p .0 .region in
     let small = p .0 .small in
     (record { region = region; small = omega arith }, (num-source (p .0) (p .1 .0) ord, den-source (p .0) (p .1 .0) ord))
@@ -46,23 +30,25 @@ same-length c = appended-long (c .before .before .put-fraction .ensures)
 
 returns : tie.Need-returns
 returns c =
-    let a = c .before .before .before .before .before .before .before .before .before .before .before .args in
-    let p = c .before .before .before .before .before .before .before .before .before .before .before .pre in
+    let at-pop : tie.After-pop = search in
+    let at-start : tie.Start = search in
+    let a = at-start .args in
+    let p = at-start .pre in
     let w = a .work .now in
     let put = c .before .before .put-fraction in
-    let shifted = subst (Appended w (put .last .0) (a .to) 8192 (c .before .before .before .before .before .before .before .before .pop .result) (put .result)) (fraction-shifted (p .0) (p .1 .0) (p .1 .1)) (put .ensures) in
-    subst (λ l. Appended w (put .last .0) (a .to) 8192 l (put .result) (fraction (a .f) (part (a .from) (a .n) w))) (c .before .before .before .before .before .before .before .before .pop .ensures) shifted
+    let shifted = subst (Appended w (put .last .0) (a .to) 8192 (at-pop .pop .result) (put .result)) (fraction-shifted (p .0) (p .1 .0) (p .1 .1)) (put .ensures) in
+    subst (λ l. Appended w (put .last .0) (a .to) 8192 l (put .result) (fraction (a .f) (part (a .from) (a .n) w))) (at-pop .pop .ensures) shifted
 
 pub put-converted-spec : {M : Type 1} → statement M
 put-converted-spec =
     tie.close
     (tie.spec
-    sub-pop
-    pop-requires
-    add-t11
-    add-t12
-    add-t11-2
-    add-t12-2
+    (λ c. search needs)
+    (λ c κs. search needs)
+    (λ c. search needs)
+    (λ c. search needs)
+    (λ c. search needs)
+    (λ c. search needs)
     put-fraction-requires
     same-length
     returns)

@@ -17,18 +17,12 @@ abbrev μ-loop : tie.MeasureT-loop
 loop-holds : tie.Need-loop-holds Inv-loop μ-loop
 loop-holds c = (refl, returning-none _ _ _ _ _ _)
 
-add-b : tie.Need-add-b Inv-loop μ-loop
-add-b c = omega arith
-
-slice-read-b : tie.Need-slice-read-b Inv-loop μ-loop
-slice-read-b c = omega arith
-
 put-block-requires : tie.Need-put-block-requires Inv-loop μ-loop
 put-block-requires c κs =
-    let l = c .before .before .before .before in
-    let s = l .before .before in
-    let r = l .loop .inv .1 in
-    let o = s .pre in
+    let at-loop : tie.At-loop Inv-loop μ-loop = search in
+    let at-start : tie.Start Inv-loop μ-loop = search in
+    let r = at-loop .loop .inv .1 in
+    let o = at-start .pre in
     let more = c .before .before .before .loop-test .taken in
     let short = o .short in
     let few = o .few in
@@ -40,64 +34,57 @@ put-block-requires c κs =
 
 add-k : tie.Need-add-k Inv-loop μ-loop
 add-k c =
-    let l = c .before .before .before .before .before .before .before in
-    let s = l .before .before in
-    let r = l .loop .inv .1 in
-    let o = s .pre in
-    let more = c .before .before .before .before .before .before .loop-test .taken in
+    let in-loop : tie.In-loop Inv-loop μ-loop = search in
+    let at-loop : tie.At-loop Inv-loop μ-loop = search in
+    let at-start : tie.Start Inv-loop μ-loop = search in
+    let r = at-loop .loop .inv .1 in
+    let o = at-start .pre in
+    let more = in-loop .loop-test .taken in
     let short = o .short in
     let few = o .few in
     let kk = r .k-slow in
     omega arith
 
-add-i : tie.Need-add-i Inv-loop μ-loop
-add-i c = omega arith
-
-loop-less : tie.Need-loop-less Inv-loop μ-loop
-loop-less c = omega arith
-
 loop-again : tie.Need-loop-again Inv-loop μ-loop
 loop-again c =
-    let l = c .before .before .before .before .before .before .before in
-    let s = l .before .before in
-    let r = l .loop .inv .1 in
-    let o = s .pre in
-    let more = c .before .before .before .before .before .before .loop-test .taken in
+    let then1 : tie.Then1 Inv-loop μ-loop = search in
+    let in-loop : tie.In-loop Inv-loop μ-loop = search in
+    let at-loop : tie.At-loop Inv-loop μ-loop = search in
+    let at-start : tie.Start Inv-loop μ-loop = search in
+    let r = at-loop .loop .inv .1 in
+    let o = at-start .pre in
+    let more = in-loop .loop-test .taken in
     let short = o .short in
     let few = o .few in
     let kk = r .k-slow in
-    let next = returning-mark o r more (c .before .before .before .before .if1 .taken) (c .before .before .put-block .ensures) in
+    let next = returning-mark o r more (then1 .if1 .taken) (c .before .before .put-block .ensures) in
     (returning-long o next, next)
 
 put-requires : tie.Need-put-requires Inv-loop μ-loop
 put-requires c κs =
-    let l = c .before .before .before .before in
-    let s = l .before .before in
-    let r = l .loop .inv .1 in
-    let o = s .pre in
+    let at-loop : tie.At-loop Inv-loop μ-loop = search in
+    let at-start : tie.Start Inv-loop μ-loop = search in
+    let r = at-loop .loop .inv .1 in
+    let o = at-start .pre in
     let more = c .before .before .before .loop-test .taken in
     let short = o .short in
     let few = o .few in
     let kk = r .k-slow in
     back-room o r 1 (omega arith) more
 
-add-i-2 : tie.Need-add-i-2 Inv-loop μ-loop
-add-i-2 c = omega arith
-
-loop-less-2 : tie.Need-loop-less-2 Inv-loop μ-loop
-loop-less-2 c = omega arith
-
 loop-again-2 : tie.Need-loop-again-2 Inv-loop μ-loop
 loop-again-2 c =
-    let l = c .before .before .before .before .before .before .before in
-    let s = l .before .before in
-    let r = l .loop .inv .1 in
-    let o = s .pre in
-    let more = c .before .before .before .before .before .before .loop-test .taken in
+    let else1 : tie.Else1 Inv-loop μ-loop = search in
+    let in-loop : tie.In-loop Inv-loop μ-loop = search in
+    let at-loop : tie.At-loop Inv-loop μ-loop = search in
+    let at-start : tie.Start Inv-loop μ-loop = search in
+    let r = at-loop .loop .inv .1 in
+    let o = at-start .pre in
+    let more = in-loop .loop-test .taken in
     let short = o .short in
     let few = o .few in
     let kk = r .k-slow in
-    let next = returning-other o r more (c .before .before .before .before .if1 .left) (c .before .before .put .ensures) in
+    let next = returning-other o r more (else1 .if1 .left) (c .before .before .put .ensures) in
     (returning-long o next, next)
 
 same-length : tie.Need-same-length Inv-loop μ-loop
@@ -116,16 +103,16 @@ put-back-spec =
     Inv-loop
     μ-loop
     loop-holds
-    add-b
-    slice-read-b
+    (λ c. omega arith)
+    (λ c. omega arith)
     put-block-requires
     add-k
-    add-i
-    loop-less
+    (λ c. omega arith)
+    (λ c. omega arith)
     loop-again
     put-requires
-    add-i-2
-    loop-less-2
+    (λ c. omega arith)
+    (λ c. omega arith)
     loop-again-2
     same-length
     returns)

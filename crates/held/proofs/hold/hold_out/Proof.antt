@@ -17,71 +17,46 @@ Inv-loop work₀ from n to name mark used filed end len₀ full₀ listed₀ i�
 abbrev μ-loop : tie.MeasureT-loop
 μ-loop work₀ from n to name mark used filed end len₀ full₀ listed₀ i₀ work len full listed i = n - i
 
-add-end : tie.Need-add-end Inv-loop μ-loop
-add-end c = omega arith
-
 loop-holds : tie.Need-loop-holds Inv-loop μ-loop
 loop-holds c = (refl, refl, holding-none _ _ _ _ _ _ _ _)
 
-add-at : tie.Need-add-at Inv-loop μ-loop
-add-at c = omega arith
-
-sub-starts-with : tie.Need-sub-starts-with Inv-loop μ-loop
-sub-starts-with c = omega arith
-
-part-starts-with-start : tie.Need-part-starts-with-start Inv-loop μ-loop
-part-starts-with-start c = omega arith
-
-part-starts-with-end : tie.Need-part-starts-with-end Inv-loop μ-loop
-part-starts-with-end c = omega arith
-
-starts-with-requires : tie.Need-starts-with-requires Inv-loop μ-loop
-starts-with-requires c κs = search needs
-
 copy-requires : tie.Need-copy-requires Inv-loop μ-loop
 copy-requires c κs =
-    let l = c .before .before .before .before .before .before in
-    let s = l .before .before .before in
-    let h = l .loop .inv .2 in
-    let o = s .pre .0 in
-    let more = c .before .before .before .before .before .loop-test .taken in
-    let ends = l .loop .inv .0 in
+    let in-loop : tie.In-loop Inv-loop μ-loop = search in
+    let at-loop : tie.At-loop Inv-loop μ-loop = search in
+    let at-start : tie.Start Inv-loop μ-loop = search in
+    let h = at-loop .loop .inv .2 in
+    let o = at-start .pre .0 in
+    let more = in-loop .loop-test .taken in
+    let ends = at-loop .loop .inv .0 in
     let short = o .short in
-    (text-room o h 1 (omega arith) (omega arith), (omega arith, apart-part (s .args .from) (s .args .n) (s .args .to) 8192 (l .loop .i) 1 (o .apart) (omega arith)))
-
-add-i : tie.Need-add-i Inv-loop μ-loop
-add-i c = omega arith
-
-loop-less : tie.Need-loop-less Inv-loop μ-loop
-loop-less c = omega arith
+    (text-room o h 1 (omega arith) (omega arith), (omega arith, apart-part (at-start .args .from) (at-start .args .n) (at-start .args .to) 8192 (at-loop .loop .i) 1 (o .apart) (omega arith)))
 
 loop-again : tie.Need-loop-again Inv-loop μ-loop
 loop-again c =
-    let l = c .before .before .before .before .before .before .before .before .before in
-    let s = l .before .before .before in
-    let h = l .loop .inv .2 in
-    let o = s .pre .0 in
-    let more = c .before .before .before .before .before .before .before .before .loop-test .taken in
-    let ends = l .loop .inv .0 in
+    let then1 : tie.Then1 Inv-loop μ-loop = search in
+    let at-starts-with : tie.After-starts-with Inv-loop μ-loop = search in
+    let in-loop : tie.In-loop Inv-loop μ-loop = search in
+    let at-loop : tie.At-loop Inv-loop μ-loop = search in
+    let at-start : tie.Start Inv-loop μ-loop = search in
+    let h = at-loop .loop .inv .2 in
+    let o = at-start .pre .0 in
+    let more = in-loop .loop-test .taken in
+    let ends = at-loop .loop .inv .0 in
     let short = o .short in
-    let other = sym (c .before .before .before .before .before .starts-with .ensures) ∙ not-true (c .before .before .before .before .before .starts-with .result) (c .before .before .before .before .if1 .taken) in
+    let other = sym (at-starts-with .starts-with .ensures) ∙ not-true (at-starts-with .starts-with .result) (then1 .if1 .taken) in
     (refl, omega arith, holding-other o h (omega arith) other (c .before .before .copy .ensures))
 
-add-open : tie.Need-add-open Inv-loop μ-loop
-add-open c = omega arith
-
-add-inside : tie.Need-add-inside Inv-loop μ-loop
-add-inside c = omega arith
-
 -- where the name stands, it ends within the text
-name-ends : (c : tie.Else1 Inv-loop μ-loop) → (let l = c .before .before .before .before .before in let s = l .before .before .before in l .loop .i + length (s .args .name .now) ≤ s .args .n)
+name-ends : (c : tie.Else1 Inv-loop μ-loop) → (let at-loop : tie.At-loop Inv-loop μ-loop = search in let at-start : tie.Start Inv-loop μ-loop = search in at-loop .loop .i + length (at-start .args .name .now) ≤ at-start .args .n)
 name-ends c =
-    let l = c .before .before .before .before .before in
-    let s = l .before .before .before in
-    let h = l .loop .inv .2 in
-    let o = s .pre .0 in
-    let more = c .before .before .before .before .loop-test .taken in
-    let ends = l .loop .inv .0 in
+    let in-loop : tie.In-loop Inv-loop μ-loop = search in
+    let at-loop : tie.At-loop Inv-loop μ-loop = search in
+    let at-start : tie.Start Inv-loop μ-loop = search in
+    let h = at-loop .loop .inv .2 in
+    let o = at-start .pre .0 in
+    let more = in-loop .loop-test .taken in
+    let ends = at-loop .loop .inv .0 in
     let short = o .short in
     name-fits o h (sym (c .before .starts-with .ensures) ∙ not-false (c .before .starts-with .result) (c .if1 .left)) (omega arith)
 
@@ -91,63 +66,56 @@ sub-find-matching-brace c = let fits = name-ends c in omega arith
 part-find-matching-brace-start : tie.Need-part-find-matching-brace-start Inv-loop μ-loop
 part-find-matching-brace-start c = let fits = name-ends (c .before) in omega arith
 
-part-find-matching-brace-end : tie.Need-part-find-matching-brace-end Inv-loop μ-loop
-part-find-matching-brace-end c = omega arith
-
 find-matching-brace-requires : tie.Need-find-matching-brace-requires Inv-loop μ-loop
 find-matching-brace-requires c κs =
-    let l = c .before .before .before .before .before .before .before in
-    let s = l .before .before .before in
-    let h = l .loop .inv .2 in
-    let o = s .pre .0 in
-    let more = c .before .before .before .before .before .before .loop-test .taken in
-    let ends = l .loop .inv .0 in
+    let in-loop : tie.In-loop Inv-loop μ-loop = search in
+    let at-loop : tie.At-loop Inv-loop μ-loop = search in
+    let at-start : tie.Start Inv-loop μ-loop = search in
+    let h = at-loop .loop .inv .2 in
+    let o = at-start .pre .0 in
+    let more = in-loop .loop-test .taken in
+    let ends = at-loop .loop .inv .0 in
     let short = o .short in
     simp (length-take, length-drop) (omega arith)
 
-enum-known-k : tie.Need-enum-known-k Inv-loop μ-loop
-enum-known-k c = search needs
-
-enum-told : tie.Need-enum-told Inv-loop μ-loop
-enum-told c = search needs
-
-sub-copy : tie.Need-sub-copy Inv-loop μ-loop
-sub-copy c = omega arith
-
 copy-requires-2 : tie.Need-copy-requires-2 Inv-loop μ-loop
 copy-requires-2 c κs =
-    let l = c .before .before .before .before .before .before .before .before .before .before .before in
-    let s = l .before .before .before in
-    let h = l .loop .inv .2 in
-    let o = s .pre .0 in
-    let more = c .before .before .before .before .before .before .before .before .before .before .loop-test .taken in
-    let ends = l .loop .inv .0 in
+    let in-loop : tie.In-loop Inv-loop μ-loop = search in
+    let at-loop : tie.At-loop Inv-loop μ-loop = search in
+    let at-start : tie.Start Inv-loop μ-loop = search in
+    let h = at-loop .loop .inv .2 in
+    let o = at-start .pre .0 in
+    let more = in-loop .loop-test .taken in
+    let ends = at-loop .loop .inv .0 in
     let short = o .short in
-    (text-room o h (s .args .n - l .loop .i) (omega arith) (omega arith), (omega arith, apart-part (s .args .from) (s .args .n) (s .args .to) 8192 (l .loop .i) (s .args .n - l .loop .i) (o .apart) (omega arith)))
-
-loop-less-2 : tie.Need-loop-less-2 Inv-loop μ-loop
-loop-less-2 c = omega arith
+    (text-room o h (at-start .args .n - at-loop .loop .i) (omega arith) (omega arith), (omega arith, apart-part (at-start .args .from) (at-start .args .n) (at-start .args .to) 8192 (at-loop .loop .i) (at-start .args .n - at-loop .loop .i) (o .apart) (omega arith)))
 
 loop-again-2 : tie.Need-loop-again-2 Inv-loop μ-loop
 loop-again-2 c =
-    let l = c .before .before .before .before .before .before .before .before .before .before .before .before .before .before in
-    let s = l .before .before .before in
-    let h = l .loop .inv .2 in
-    let o = s .pre .0 in
-    let more = c .before .before .before .before .before .before .before .before .before .before .before .before .before .loop-test .taken in
-    let ends = l .loop .inv .0 in
+    let at-enum-told : tie.After-enum-told Inv-loop μ-loop = search in
+    let at-find-matching-brace : tie.After-find-matching-brace Inv-loop μ-loop = search in
+    let else1 : tie.Else1 Inv-loop μ-loop = search in
+    let at-starts-with : tie.After-starts-with Inv-loop μ-loop = search in
+    let in-loop : tie.In-loop Inv-loop μ-loop = search in
+    let at-loop : tie.At-loop Inv-loop μ-loop = search in
+    let at-start : tie.Start Inv-loop μ-loop = search in
+    let h = at-loop .loop .inv .2 in
+    let o = at-start .pre .0 in
+    let more = in-loop .loop-test .taken in
+    let ends = at-loop .loop .inv .0 in
     let short = o .short in
-    let met = sym (c .before .before .before .before .before .before .before .before .before .before .starts-with .ensures) ∙ not-false (c .before .before .before .before .before .before .before .before .before .before .starts-with .result) (c .before .before .before .before .before .before .before .before .before .if1 .left) in
-    (refl, omega arith, holding-rest o h (omega arith) met (c .before .before .before .before .before .before .find-matching-brace .ensures) (c .before .before .before .before .enum-told .given .1) (c .before .before .copy2 .ensures))
+    let met = sym (at-starts-with .starts-with .ensures) ∙ not-false (at-starts-with .starts-with .result) (else1 .if1 .left) in
+    (refl, omega arith, holding-rest o h (omega arith) met (at-find-matching-brace .find-matching-brace .ensures) (at-enum-told .enum-told .given .1) (c .before .before .copy2 .ensures))
 
 put-requires : tie.Need-put-requires Inv-loop μ-loop
 put-requires c κs =
-    let l = c .before .before .before .before .before .before .before .before .before .before .before .before in
-    let s = l .before .before .before in
-    let h = l .loop .inv .2 in
-    let o = s .pre .0 in
-    let more = c .before .before .before .before .before .before .before .before .before .before .before .loop-test .taken in
-    let ends = l .loop .inv .0 in
+    let in-loop : tie.In-loop Inv-loop μ-loop = search in
+    let at-loop : tie.At-loop Inv-loop μ-loop = search in
+    let at-start : tie.Start Inv-loop μ-loop = search in
+    let h = at-loop .loop .inv .2 in
+    let o = at-start .pre .0 in
+    let more = in-loop .loop-test .taken in
+    let ends = at-loop .loop .inv .0 in
     let short = o .short in
     text-room o h 1 (omega arith) (omega arith)
 
@@ -157,37 +125,47 @@ record Bounds (i name k n listed : ℕ) : Type 0 where
   pub short : n ≤ 8192
   pub few : listed ≤ 5120 + 4 * i
 
-bounds : (c : tie.After-known-told Inv-loop μ-loop) → (let l = c .before .before .before .before .before .before .before .before .before .before .before in let s = l .before .before .before in Bounds (l .loop .i) (length (s .args .name .now)) (c .before .k .given .0 .0) (s .args .n) (l .loop .listed))
+bounds : (c : tie.After-known-told Inv-loop μ-loop) → (let at-loop : tie.At-loop Inv-loop μ-loop = search in let at-start : tie.Start Inv-loop μ-loop = search in Bounds (at-loop .loop .i) (length (at-start .args .name .now)) (c .before .k .given .0 .0) (at-start .args .n) (at-loop .loop .listed))
 bounds c =
-    let l = c .before .before .before .before .before .before .before .before .before .before .before in
-    let s = l .before .before .before in
-    let h = l .loop .inv .2 in
-    let o = s .pre .0 in
-    let more = c .before .before .before .before .before .before .before .before .before .before .loop-test .taken in
-    let ends = l .loop .inv .0 in
+    let else1 : tie.Else1 Inv-loop μ-loop = search in
+    let at-starts-with : tie.After-starts-with Inv-loop μ-loop = search in
+    let in-loop : tie.In-loop Inv-loop μ-loop = search in
+    let at-loop : tie.At-loop Inv-loop μ-loop = search in
+    let at-start : tie.Start Inv-loop μ-loop = search in
+    let h = at-loop .loop .inv .2 in
+    let o = at-start .pre .0 in
+    let more = in-loop .loop-test .taken in
+    let ends = at-loop .loop .inv .0 in
     let short = o .short in
-    let met = sym (c .before .before .before .before .before .before .before .starts-with .ensures) ∙ not-false (c .before .before .before .before .before .before .before .starts-with .result) (c .before .before .before .before .before .before .if1 .left) in
+    let met = sym (at-starts-with .starts-with .ensures) ∙ not-false (at-starts-with .starts-with .result) (else1 .if1 .left) in
     let x = h .filed-slow in
     let y = o .small in
     record { ends = block-fits o h (omega arith) met (c .before .before .before .find-matching-brace .ensures) (c .before .k .given .0 .0) (c .before .k .given .1); short = short; few = omega arith }
 
 add-keep : tie.Need-add-keep Inv-loop μ-loop
-add-keep c = let f = bounds (c .before .before .before .before .before) in omega arith
+add-keep c =
+    let at-known-told : tie.After-known-told Inv-loop μ-loop = search in
+    let f = bounds (at-known-told) in omega arith
 
 add-keep-2 : tie.Need-add-keep-2 Inv-loop μ-loop
-add-keep-2 c = let f = bounds (c .before .before .before .before .before) in omega arith
+add-keep-2 c =
+    let at-known-told : tie.After-known-told Inv-loop μ-loop = search in
+    let f = bounds (at-known-told) in omega arith
 
 keep-requires : tie.Need-keep-requires Inv-loop μ-loop
 keep-requires c κs =
-    let l = c .before .before .before .before .before .before .before .before .before .before .before .before .before .before .before .before in
-    let s = l .before .before .before in
-    let h = l .loop .inv .2 in
-    let o = s .pre .0 in
-    let more = c .before .before .before .before .before .before .before .before .before .before .before .before .before .before .before .loop-test .taken in
-    let ends = l .loop .inv .0 in
+    let at-known-told : tie.After-known-told Inv-loop μ-loop = search in
+    let at-k : tie.After-k Inv-loop μ-loop = search in
+    let in-loop : tie.In-loop Inv-loop μ-loop = search in
+    let at-loop : tie.At-loop Inv-loop μ-loop = search in
+    let at-start : tie.Start Inv-loop μ-loop = search in
+    let h = at-loop .loop .inv .2 in
+    let o = at-start .pre .0 in
+    let more = in-loop .loop-test .taken in
+    let ends = at-loop .loop .inv .0 in
     let short = o .short in
-    let fits = bounds (c .before .before .before .before .before) .ends in
-    let long = length (s .args .name .now) + c .before .before .before .before .before .before .k .given .0 .0 + 1 in
+    let fits = bounds (at-known-told) .ends in
+    let long = length (at-start .args .name .now) + at-k .k .given .0 .0 + 1 in
     let a = appended-long (c .before .before .before .put .ensures) in
     let r = block-room o h long (omega arith) (omega arith) in
     let p = place-room o h (omega arith) in
@@ -197,28 +175,42 @@ keep-requires c κs =
     (record { region = omega arith; small = r .small }, (record { region = omega arith; small = p .small }, (omega arith, (omega arith, omega arith))))
 
 add-listed : tie.Need-add-listed Inv-loop μ-loop
-add-listed c = let f = bounds (c .before .before .before .before .before .before .before .before) in omega arith
+add-listed c =
+    let at-known-told : tie.After-known-told Inv-loop μ-loop = search in
+    let f = bounds (at-known-told) in omega arith
 
 add-i-2 : tie.Need-add-i-2 Inv-loop μ-loop
-add-i-2 c = let f = bounds (c .before .before .before .before .before .before .before .before) in omega arith
+add-i-2 c =
+    let at-known-told : tie.After-known-told Inv-loop μ-loop = search in
+    let f = bounds (at-known-told) in omega arith
 
 add-i-3 : tie.Need-add-i-3 Inv-loop μ-loop
-add-i-3 c = let f = bounds (c .before .before .before .before .before .before .before .before) in omega arith
+add-i-3 c =
+    let at-known-told : tie.After-known-told Inv-loop μ-loop = search in
+    let f = bounds (at-known-told) in omega arith
 
 loop-less-3 : tie.Need-loop-less-3 Inv-loop μ-loop
-loop-less-3 c = let f = bounds (c .before .before .before .before .before .before .before .before) in omega arith
+loop-less-3 c =
+    let at-known-told : tie.After-known-told Inv-loop μ-loop = search in
+    let f = bounds (at-known-told) in omega arith
 
 loop-again-3 : tie.Need-loop-again-3 Inv-loop μ-loop
 loop-again-3 c =
-    let l = c .before .before .before .before .before .before .before .before .before .before .before .before .before .before .before .before .before .before .before in
-    let s = l .before .before .before in
-    let h = l .loop .inv .2 in
-    let o = s .pre .0 in
-    let more = c .before .before .before .before .before .before .before .before .before .before .before .before .before .before .before .before .before .before .loop-test .taken in
-    let ends = l .loop .inv .0 in
+    let at-put : tie.After-put Inv-loop μ-loop = search in
+    let at-k : tie.After-k Inv-loop μ-loop = search in
+    let at-find-matching-brace : tie.After-find-matching-brace Inv-loop μ-loop = search in
+    let else1 : tie.Else1 Inv-loop μ-loop = search in
+    let at-starts-with : tie.After-starts-with Inv-loop μ-loop = search in
+    let in-loop : tie.In-loop Inv-loop μ-loop = search in
+    let at-loop : tie.At-loop Inv-loop μ-loop = search in
+    let at-start : tie.Start Inv-loop μ-loop = search in
+    let h = at-loop .loop .inv .2 in
+    let o = at-start .pre .0 in
+    let more = in-loop .loop-test .taken in
+    let ends = at-loop .loop .inv .0 in
     let short = o .short in
-    let met = sym (c .before .before .before .before .before .before .before .before .before .before .before .before .before .before .before .starts-with .ensures) ∙ not-false (c .before .before .before .before .before .before .before .before .before .before .before .before .before .before .before .starts-with .result) (c .before .before .before .before .before .before .before .before .before .before .before .before .before .before .if1 .left) in
-    let next = holding-held o h (omega arith) met (c .before .before .before .before .before .before .before .before .before .before .before .find-matching-brace .ensures) (c .before .before .before .before .before .before .before .before .before .k .given .0 .0) (c .before .before .before .before .before .before .before .before .before .k .given .1) (c .before .before .before .before .before .before .put .ensures) (c .before .before .keep .ensures) in
+    let met = sym (at-starts-with .starts-with .ensures) ∙ not-false (at-starts-with .starts-with .result) (else1 .if1 .left) in
+    let next = holding-held o h (omega arith) met (at-find-matching-brace .find-matching-brace .ensures) (at-k .k .given .0 .0) (at-k .k .given .1) (at-put .put .ensures) (c .before .before .keep .ensures) in
     (refl, holding-long o next, next)
 
 same-length : tie.Need-same-length Inv-loop μ-loop
@@ -233,28 +225,28 @@ hold-out-spec =
     (tie.spec
     Inv-loop
     μ-loop
-    add-end
+    (λ c. omega arith)
     loop-holds
-    add-at
-    sub-starts-with
-    part-starts-with-start
-    part-starts-with-end
-    starts-with-requires
+    (λ c. omega arith)
+    (λ c. omega arith)
+    (λ c. omega arith)
+    (λ c. omega arith)
+    (λ c κs. search needs)
     copy-requires
-    add-i
-    loop-less
+    (λ c. omega arith)
+    (λ c. omega arith)
     loop-again
-    add-open
-    add-inside
+    (λ c. omega arith)
+    (λ c. omega arith)
     sub-find-matching-brace
     part-find-matching-brace-start
-    part-find-matching-brace-end
+    (λ c. omega arith)
     find-matching-brace-requires
-    enum-known-k
-    enum-told
-    sub-copy
+    (λ c. search needs)
+    (λ c. search needs)
+    (λ c. omega arith)
     copy-requires-2
-    loop-less-2
+    (λ c. omega arith)
     loop-again-2
     put-requires
     add-keep

@@ -8,14 +8,5 @@ use Rattle.held.proofs.hold.keep.Tie as tie
 copy-requires : tie.Need-copy-requires
 copy-requires c κs = let p = c .before .before .pre in (p .0, (omega arith, inl (p .1 .1 .0)))
 
-put-place-requires : tie.Need-put-place-requires
-put-place-requires c κs = search needs
-
-same-length : tie.Need-same-length
-same-length c = search needs
-
-returns : tie.Need-returns
-returns c = search needs
-
 pub keep-spec : {M : Type 1} → statement M
-keep-spec = tie.close (tie.spec copy-requires put-place-requires same-length returns)
+keep-spec = tie.close (tie.spec copy-requires (λ c κs. search needs) (λ c. search needs) (λ c. search needs))

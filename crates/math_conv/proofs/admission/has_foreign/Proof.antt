@@ -19,28 +19,20 @@ abbrev μ-loop : tie.MeasureT-loop
 loop-holds : tie.Need-loop-holds Inv-loop μ-loop
 loop-holds c = (refl, omega arith, refl)
 
-shared-slice-read-is-foreign : tie.Need-shared-slice-read-is-foreign Inv-loop μ-loop
-shared-slice-read-is-foreign c = omega arith
-
-is-foreign-requires : tie.Need-is-foreign-requires Inv-loop μ-loop
-is-foreign-requires c κs = search needs
-
 returns : tie.Need-returns Inv-loop μ-loop
 returns c =
-    let at = c .before .before .before .before .loop in
-    let s = c .before .before .before .before .before .before .args .formula .now in
+    let at-loop : tie.At-loop Inv-loop μ-loop = search in
+    let at-start : tie.Start Inv-loop μ-loop = search in
+    let at = at-loop .loop in
+    let s = at-start .args .formula .now in
     sym (any-stop foreign s (at .i) (omega arith) (sym (c .before .is-foreign .ensures) ∙ c .if1 .taken)) ∙ at .inv .0
-
-add-i : tie.Need-add-i Inv-loop μ-loop
-add-i c = search needs
-
-loop-less : tie.Need-loop-less Inv-loop μ-loop
-loop-less c = omega arith
 
 loop-again : tie.Need-loop-again Inv-loop μ-loop
 loop-again c =
-    let at = c .before .before .before .before .loop in
-    let s = c .before .before .before .before .before .before .args .formula .now in
+    let at-loop : tie.At-loop Inv-loop μ-loop = search in
+    let at-start : tie.Start Inv-loop μ-loop = search in
+    let at = at-loop .loop in
+    let s = at-start .args .formula .now in
     (sym (any-more foreign s (at .i) (omega arith) (sym (c .before .is-foreign .ensures) ∙ c .if1 .left)) ∙ at .inv .0, omega arith, at .inv .2)
 
 returns-2 : tie.Need-returns-2 Inv-loop μ-loop
@@ -55,10 +47,10 @@ has-foreign-spec =
     Inv-loop
     μ-loop
     loop-holds
-    shared-slice-read-is-foreign
-    is-foreign-requires
+    (λ c. omega arith)
+    (λ c κs. search needs)
     returns
-    add-i
-    loop-less
+    (λ c. search needs)
+    (λ c. omega arith)
     loop-again
     returns-2)

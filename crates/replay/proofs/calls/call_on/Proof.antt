@@ -17,38 +17,14 @@ slice-aggregate-copy-2 c = simp length-take (omega arith)
 copy-requires-2 : tie.Need-copy-requires-2
 copy-requires-2 c κs = simp length-take (omega arith)
 
-typst-to-latex-requires : tie.Need-typst-to-latex-requires
-typst-to-latex-requires c κs = search needs
-
 slice-aggregate-is-left-right : tie.Need-slice-aggregate-is-left-right
 slice-aggregate-is-left-right c = simp length-take (omega arith)
-
-is-left-right-requires : tie.Need-is-left-right-requires
-is-left-right-requires c κs = search needs
-
-same-length : tie.Need-same-length
-same-length c = search needs
-
-same-length-2 : tie.Need-same-length-2
-same-length-2 c = search needs
-
-returns : tie.Need-returns
-returns c = search needs
 
 slice-aggregate-compare : tie.Need-slice-aggregate-compare
 slice-aggregate-compare c = simp length-take (omega arith)
 
 compare-requires : tie.Need-compare-requires
 compare-requires c κs = simp length-take (omega arith)
-
-same-length-3 : tie.Need-same-length-3
-same-length-3 c = search needs
-
-same-length-4 : tie.Need-same-length-4
-same-length-4 c = search needs
-
-returns-2 : tie.Need-returns-2
-returns-2 c = search needs
 
 pub call-on-spec : {M : Type 1} → statement M
 call-on-spec =
@@ -58,14 +34,14 @@ call-on-spec =
     copy-requires
     slice-aggregate-copy-2
     copy-requires-2
-    typst-to-latex-requires
+    (λ c κs. search needs)
     slice-aggregate-is-left-right
-    is-left-right-requires
-    same-length
-    same-length-2
-    returns
+    (λ c κs. search needs)
+    (λ c. search needs)
+    (λ c. search needs)
+    (λ c. search needs)
     slice-aggregate-compare
     compare-requires
-    same-length-3
-    same-length-4
-    returns-2)
+    (λ c. search needs)
+    (λ c. search needs)
+    (λ c. search needs))

@@ -22,9 +22,6 @@ loop-holds c = (spelling-begins (c .args .number) (c .args .text .now) (c .pre),
 sub-start : tie.Need-sub-start Inv-loop μ-loop
 sub-start c = let room = spelling-room (c .before .loop .inv .0) (omega arith) in omega arith
 
-sub-text : tie.Need-sub-text Inv-loop μ-loop
-sub-text c = search needs
-
 array-read-text : tie.Need-array-read-text Inv-loop μ-loop
 array-read-text c = mod-lt _ (omega arith)
 
@@ -34,9 +31,6 @@ slice-write-text c =
     let room = spelling-room s (omega arith) in
     let w = s .within in
     omega arith
-
-sub-left : tie.Need-sub-left Inv-loop μ-loop
-sub-left c = search needs
 
 loop-less : tie.Need-loop-less Inv-loop μ-loop
 loop-less c = let room = spelling-room (c .before .loop .inv .0) (omega arith) in omega arith
@@ -65,10 +59,10 @@ spell-spec =
     μ-loop
     loop-holds
     sub-start
-    sub-text
+    (λ c. search needs)
     array-read-text
     slice-write-text
-    sub-left
+    (λ c. search needs)
     loop-less
     loop-again
     same-length

@@ -10,55 +10,45 @@ use borrow.Author.Needs.{needs}
 use Rattle.sizing.proofs.pieces.tall_inside.Statement.{statement}
 use Rattle.sizing.proofs.pieces.tall_inside.Tie as tie
 
-find-closer-requires : tie.Need-find-closer-requires
-find-closer-requires c κs = search needs
-
-enum-known-k : tie.Need-enum-known-k
-enum-known-k c = search needs
-
-enum-told : tie.Need-enum-told
-enum-told c = search needs
-
 returns : tie.Need-returns
-returns c = let a = c .before .before .before .before .args in tall-none (a .s .now) (a .opener) (a .closer) (c .before .before .find-closer .ensures) (c .enum-told .given .1)
-
-sub-is-tall : tie.Need-sub-is-tall
-sub-is-tall c = omega arith
-
-part-is-tall-start : tie.Need-part-is-tall-start
-part-is-tall-start c = omega arith
+returns c =
+    let at-start : tie.Start = search in
+    let a = at-start .args in tall-none (a .s .now) (a .opener) (a .closer) (c .before .before .find-closer .ensures) (c .enum-told .given .1)
 
 part-is-tall-end : tie.Need-part-is-tall-end
 part-is-tall-end c = let w = closes-within (c .before .before .before .find-closer .ensures) (c .before .k .given .1) in omega arith
 
-is-tall-requires : tie.Need-is-tall-requires
-is-tall-requires c κs = search needs
-
 returns-2 : tie.Need-returns-2
 returns-2 c =
-    let a = c .before .before .before .before .before .before .before .before .args in
-    let k = c .before .before .before .before .k .given .0 .0 in
-    tall-high (a .s .now) (a .opener) (a .closer) (c .before .before .before .before .before .before .find-closer .ensures) (c .before .before .before .before .k .given .1)
+    let at-k : tie.After-k = search in
+    let at-find-closer : tie.After-find-closer = search in
+    let at-start : tie.Start = search in
+    let a = at-start .args in
+    let k = at-k .k .given .0 .0 in
+    tall-high (a .s .now) (a .opener) (a .closer) (at-find-closer .find-closer .ensures) (at-k .k .given .1)
     (ap (λ j. tall (take j (a .s .now))) (sym (sub-zero k)) ∙ sym (c .before .is-tall .ensures) ∙ c .if1 .taken)
 
 returns-3 : tie.Need-returns-3
 returns-3 c =
-    let a = c .before .before .before .before .before .before .before .before .args in
-    let k = c .before .before .before .before .k .given .0 .0 in
-    tall-low (a .s .now) (a .opener) (a .closer) (c .before .before .before .before .before .before .find-closer .ensures) (c .before .before .before .before .k .given .1)
+    let at-k : tie.After-k = search in
+    let at-find-closer : tie.After-find-closer = search in
+    let at-start : tie.Start = search in
+    let a = at-start .args in
+    let k = at-k .k .given .0 .0 in
+    tall-low (a .s .now) (a .opener) (a .closer) (at-find-closer .find-closer .ensures) (at-k .k .given .1)
     (ap (λ j. tall (take j (a .s .now))) (sym (sub-zero k)) ∙ sym (c .before .is-tall .ensures) ∙ c .if1 .left)
 
 pub tall-inside-spec : {M : Type 1} → statement M
 tall-inside-spec =
     tie.close
     (tie.spec
-    find-closer-requires
-    enum-known-k
-    enum-told
+    (λ c κs. search needs)
+    (λ c. search needs)
+    (λ c. search needs)
     returns
-    sub-is-tall
-    part-is-tall-start
+    (λ c. omega arith)
+    (λ c. omega arith)
     part-is-tall-end
-    is-tall-requires
+    (λ c κs. search needs)
     returns-2
     returns-3)

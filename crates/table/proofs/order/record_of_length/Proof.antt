@@ -17,15 +17,6 @@ Inv-loop table from n at₀ at = ofLength n (listed table from) ≡ ofLength n (
 abbrev μ-loop : tie.MeasureT-loop
 μ-loop table from n at₀ at = length table - at
 
-loop-holds : tie.Need-loop-holds Inv-loop μ-loop
-loop-holds c = refl
-
-record-at-requires : tie.Need-record-at-requires Inv-loop μ-loop
-record-at-requires c κs = search needs
-
-enum-known-found : tie.Need-enum-known-found Inv-loop μ-loop
-enum-known-found c = search needs
-
 returns : tie.Need-returns Inv-loop μ-loop
 returns c =
     let l = c .before .before in
@@ -33,7 +24,7 @@ returns c =
 
 -- what is known where a record has been read
 here : (c : tie.After-known-told Inv-loop μ-loop)
-    → Heads (c .before .before .before .before .before .before .args .table .now) (c .before .before .before .before .loop .at) (c .before .found .given .0 .0)
+    → (let at-loop : tie.At-loop Inv-loop μ-loop = search in let at-start : tie.Start Inv-loop μ-loop = search in Heads (at-start .args .table .now) (at-loop .loop .at) (c .before .found .given .0 .0))
 here c = heads (c .before .before .before .record-at .ensures) (c .before .found .given .1)
 
 sub-if1 : tie.Need-sub-if1 Inv-loop μ-loop
@@ -41,12 +32,14 @@ sub-if1 c = let h = here (c .before) .lies in omega arith
 
 returns-2 : tie.Need-returns-2 Inv-loop μ-loop
 returns-2 c =
-    let r = c .before .before in let l = r .before .before .before .before in let a = l .before .before .args in
+    let at-known-told = c .before .before in
+    let at-loop : tie.At-loop Inv-loop μ-loop = search in
+    let a = at-loop .before .before .args in
     let s = a .table .now in
-    let found = r .before .found .given .0 .0 in
-    let h = here r in
+    let found = at-known-told .before .found .given .0 .0 in
+    let h = here at-known-told in
     record {
-      left = l .loop .inv ∙ ap (ofLength (a .length)) (h .first) ∙ of-length-same (a .length) (definitionAt s found) (listed s (found .next)) (length-name (h .lies) ∙ c .if1 .taken);
+      left = at-loop .loop .inv ∙ ap (ofLength (a .length)) (h .first) ∙ of-length-same (a .length) (definitionAt s found) (listed s (found .next)) (length-name (h .lies) ∙ c .if1 .taken);
       stands = whole (h .lies) (h .short);
     }
 
@@ -55,11 +48,13 @@ loop-less c = let h = here (c .before .before) in let b = h .behind in let p = h
 
 loop-again : tie.Need-loop-again Inv-loop μ-loop
 loop-again c =
-    let r = c .before .before in let l = r .before .before .before .before in let a = l .before .before .args in
+    let at-known-told = c .before .before in
+    let at-loop : tie.At-loop Inv-loop μ-loop = search in
+    let a = at-loop .before .before .args in
     let s = a .table .now in
-    let found = r .before .found .given .0 .0 in
-    let h = here r in
-    l .loop .inv ∙ ap (ofLength (a .length)) (h .first)
+    let found = at-known-told .before .found .given .0 .0 in
+    let h = here at-known-told in
+    at-loop .loop .inv ∙ ap (ofLength (a .length)) (h .first)
     ∙ of-length-other (a .length) (definitionAt s found) (listed s (found .next)) (λ e. c .if1 .left (sym (length-name (h .lies)) ∙ e))
 
 pub record-of-length-spec : {M : Type 1} → statement M
@@ -68,9 +63,9 @@ record-of-length-spec =
     (tie.spec
     Inv-loop
     μ-loop
-    loop-holds
-    record-at-requires
-    enum-known-found
+    (λ c. refl)
+    (λ c κs. search needs)
+    (λ c. search needs)
     returns
     sub-if1
     returns-2

@@ -15,15 +15,6 @@ Inv-loop table length₀ at₀ length at = downFrom length₀ (listed table at�
 abbrev μ-loop : tie.MeasureT-loop
 μ-loop table length₀ at₀ length at = length
 
-loop-holds : tie.Need-loop-holds Inv-loop μ-loop
-loop-holds c = refl
-
-record-of-length-requires : tie.Need-record-of-length-requires Inv-loop μ-loop
-record-of-length-requires c κs = search needs
-
-enum-known-found : tie.Need-enum-known-found Inv-loop μ-loop
-enum-known-found c = search needs
-
 returns : tie.Need-returns Inv-loop μ-loop
 unfolding remaining
 returns c =
@@ -37,12 +28,6 @@ returns c =
       left = l .loop .inv ∙ down-next n (listed s (l .loop .at)) (listed s 0) (omega arith) (listed s (c .before .found .given .0 .0 .next)) (pick .left ∙ ap (picked s n) e);
       lies = taken (stands-lies stands) (stands-short stands);
     }
-
-sub-length : tie.Need-sub-length Inv-loop μ-loop
-sub-length c = omega arith
-
-loop-less : tie.Need-loop-less Inv-loop μ-loop
-loop-less c = omega arith
 
 loop-again : tie.Need-loop-again Inv-loop μ-loop
 loop-again c =
@@ -66,11 +51,11 @@ next-spec =
     (tie.spec
     Inv-loop
     μ-loop
-    loop-holds
-    record-of-length-requires
-    enum-known-found
+    (λ c. refl)
+    (λ c κs. search needs)
+    (λ c. search needs)
     returns
-    sub-length
-    loop-less
+    (λ c. omega arith)
+    (λ c. omega arith)
     loop-again
     returns-2)
