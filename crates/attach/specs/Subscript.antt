@@ -8,27 +8,27 @@ use lib.ListN.{length, getD, drop, length-take}
 use Rattle.spec.specs.Symbols.{bytes, starts}
 use Rattle.spec.specs.Sweep.{kept, taken, replace}
 use Rattle.symbols.specs.Parts.{part, length-part}
-use Rattle.text.specs.Writer.{Appended, Regions}
+use Rattle.text.specs.Writer.{Appended}
 use Rattle.text.specs.Sweep.{Sweeping, rest, rest-read, sweeping-more, sweeping-kept}
 use Rattle.attach.specs.Weight.{commas, weight-long, weight-short, replace-light}
 
 module _
-    {w₀ w : List ℕ} {from n to cap count₀ count i : ℕ} (regions : Regions w₀ from n to cap count₀) (sweeping : Sweeping commas w₀ w from n to cap count₀ count i)
+    {w₀ w : List ℕ} {from n to cap count₀ count i : ℕ} (sweeping : Sweeping commas w₀ w from n to cap count₀ count i)
     (more : i < n) {b : Bool} (met : b ≡ starts (bytes "\\,") (rest from n i w))
   where
     turn : {t : Bool} → b ≡ t → commas (getD (0 ∷ part from n w₀) i 0) (drop i (part from n w₀)) ≡ cond t (taken (length (bytes "\\,")) (bytes "\\;")) (kept (drop i (part from n w₀)))
     turn e =
         ap (λ t. cond t (taken (length (bytes "\\,")) (bytes "\\;")) (kept (drop i (part from n w₀))))
-        (ap (starts (bytes "\\,")) (sym (rest-read regions sweeping)) ∙ sym met ∙ e)
+        (ap (starts (bytes "\\,")) (sym (rest-read sweeping)) ∙ sym met ∙ e)
 
     pub comma-replaced : {w′ : List ℕ} {count′ : ℕ} → b ≡ true → Appended w w′ to cap count count′ (bytes "\\;") → Sweeping commas w₀ w′ from n to cap count₀ count′ (i + 2)
     comma-replaced {w′} {count′} e a =
         let next : i + 1 + 1 ≡ i + 2 = omega arith in
         subst (λ j. Sweeping commas w₀ w′ from n to cap count₀ count′ j) next
-        (sweeping-more regions sweeping more (taken (length (bytes "\\,")) (bytes "\\;")) (turn e) a (omega arith))
+        (sweeping-more sweeping more (taken (length (bytes "\\,")) (bytes "\\;")) (turn e) a (omega arith))
 
     pub symbol-kept : {w′ : List ℕ} {count′ : ℕ} → b ≡ false → Appended w w′ to cap count count′ (getD w (from + i) 0 ∷ []) → Sweeping commas w₀ w′ from n to cap count₀ count′ (i + 1)
-    symbol-kept e a = sweeping-kept regions sweeping more (turn e) a
+    symbol-kept e a = sweeping-kept sweeping more (turn e) a
 
 -- a subscript is at most twice as long as what it is made of
 pub subscript-short :

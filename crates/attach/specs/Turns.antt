@@ -20,7 +20,7 @@ use Rattle.spec.specs.Result.{passed, _then_, mostSymbols, grown, stage}
 use Rattle.spec.specs.Calls.{spliced, latexUnderset, attachOnce, attachTimes, convertAttach}
 use Rattle.spec.specs.Symbols.{bytes, _andThen_, find}
 use Rattle.spec.specs.Laws.Symbols.{find-starts}
-use Rattle.search.specs.Search.{Finds, finds-at, finds-nothing, until-drop}
+use Rattle.search.specs.Search.{Finds, finds-at, finds-within, finds-nothing, until-drop}
 use Rattle.search.specs.declared.Found.{Found}
 use Rattle.search.specs.declared.Found.the-variants as Found
 use Rattle.delimiters.specs.Delimiters.{Called}
@@ -149,11 +149,11 @@ module _ {w : List ℕ} {at n : ℕ} (half : Halved w at n) {r : Found} (finds :
     module _ {q : Found} (called : Called (bytes "attach(") (part (at + i) (at + n - (at + i)) w) q) where
       pub turned-unclosed : q ≡ Found.Nothing → Turned w w at n Done
       unfolding attachOnce
-      turned-unclosed f = unturned (rw (finds-at found e, first-unclosed found e (call-from w at n i called) f))
+      turned-unclosed f = unturned (rw (finds-at found e, first-unclosed (part at n w) i (finds-at found e) (finds-within found e) (call-from w at n i called) f))
 
       module _ {k : ℕ} (f : q ≡ Found.At k) where
         first : Firstly (bytes "attach(") text i k
-        first = first-at found e (call-from w at n i called) f
+        first = first-at (part at n w) i (finds-at found e) (finds-within found e) (call-from w at n i called) f
 
         pub call-here : i + 7 + k + 1 ≤ n
         call-here = let l = length-part at n w (halved-regions half .source) in let g = first .within in omega arith

@@ -112,8 +112,7 @@ fn put_subscript(work: &mut [u8], to: usize, count: usize, from: usize, n: usize
             i += 2;
             continue;
         }
-        let b = work[at];
-        written = text::put(work, to, HALF, written, b);
+        written = text::copy_one(work, at, to, HALF, written);
         i += 1;
     }
     written

@@ -16,7 +16,7 @@ use Rattle.symbols.specs.Parts.{part, whole-part, length-part, rest-of, sub-par
 use Rattle.symbols.specs.Trim.{Narrowed, spanned}
 use Rattle.symbols.specs.declared.Span.{Span}
 use Rattle.search.specs.Search.{Closes, closes-at, closes-within, closes-nothing, inside-drop}
-use Rattle.text.specs.Writer.{Regions, Appended, Apart, appended-long}
+use Rattle.text.specs.Writer.{Appended, Apart}
 use Rattle.text.specs.Sweep.{Sweeping, rest, symbols-read, symbols-apart, sweeping-more, sweeping-kept}
 use Rattle.search.specs.declared.Found.{Found}
 use Rattle.search.specs.declared.Found.the-variants.{At, Nothing}
@@ -62,38 +62,38 @@ binom-waits = record { copies = λ before s e. rw (sym (called-not (bytes "binom
 
 -- ---- a turn of the loop: `call_at` has looked at the rest of the text
 module _
-    {w₀ w : List ℕ} {from n to cap count₀ count i : ℕ} (regions : Regions w₀ from n to cap count₀) (sweeping : Sweeping binom w₀ w from n to cap count₀ count i)
+    {w₀ w : List ℕ} {from n to cap count₀ count i : ℕ} (sweeping : Sweeping binom w₀ w from n to cap count₀ count i)
     (more : i < n) {r : Found} (called : Called (bytes "binom(") (rest from n i w) r)
   where
     abbrev here : List ℕ
     here = drop i (part from n w₀)
 
     pub copied-uncalled : {w′ : List ℕ} {count′ : ℕ} → r ≡ Nothing → Appended w w′ to cap count count′ (getD w (from + i) 0 ∷ []) → Sweeping binom w₀ w′ from n to cap count₀ count′ (i + 1)
-    copied-uncalled e a = sweeping-kept regions sweeping more (rw (call-read regions sweeping more called ∙ ap (innerAt (bytes "binom(") here) e)) a
+    copied-uncalled e a = sweeping-kept sweeping more (rw (call-read sweeping more called ∙ ap (innerAt (bytes "binom(") here) e)) a
 
     module _ {k : ℕ} (e : r ≡ At k) where
       abbrev inner : List ℕ
       inner = part (from + i + 6) k w
 
       fits : i + 6 + k + 1 ≤ n
-      fits = call-fits regions sweeping more called e
+      fits = call-fits sweeping more called e
 
       inner-long : length inner ≡ k
-      inner-long = let f = fits in let s = regions .source in let l = appended-long (sweeping .appended) in length-part (from + i + 6) k w (omega arith)
+      inner-long = let f = fits in let s = sweeping .regions .source in let l = sweeping .long in length-part (from + i + 6) k w (omega arith)
 
       call-here : callAt (bytes "binom(") here ≡ some inner
       call-here =
           let f = fits in let m : from + (i + 6) ≡ from + i + 6 = omega arith in
-          call-read regions sweeping more called ∙ ap (innerAt (bytes "binom(") here) e
+          call-read sweeping more called ∙ ap (innerAt (bytes "binom(") here) e
           ∙ ap (λ s. some (take k s)) (drop-drop 6 i (part from n w₀))
-          ∙ ap some (sym (symbols-read regions sweeping (i + 6) k (omega arith)) ∙ ap (λ j. part j k w) m)
+          ∙ ap some (sym (symbols-read sweeping (i + 6) k (omega arith)) ∙ ap (λ j. part j k w) m)
 
       module _ {q : Found} (answer : Closes (part (from + i + 6) (from + i + 6 + k - (from + i + 6)) w) q (findCommaInArgs (part (from + i + 6) (from + i + 6 + k - (from + i + 6)) w))) where
         comma : Closes inner q (findCommaInArgs inner)
         comma = subst (λ s. Closes s q (findCommaInArgs s)) (whole-part (from + i + 6) k w) answer
 
         pub copied-unparted : {w′ : List ℕ} {count′ : ℕ} → q ≡ Nothing → Appended w w′ to cap count count′ (getD w (from + i) 0 ∷ []) → Sweeping binom w₀ w′ from n to cap count₀ count′ (i + 1)
-        copied-unparted f a = sweeping-kept regions sweeping more (rw (call-here, closes-nothing comma f)) a
+        copied-unparted f a = sweeping-kept sweeping more (rw (call-here, closes-nothing comma f)) a
 
         module _ {j : ℕ} (f : q ≡ At j) where
           pub comma-within : j < k
@@ -109,12 +109,12 @@ module _
               let l = inner-long in let c = a .counted in
               let next : i + 1 + (6 + length inner) ≡ i + (6 + k + 1) = omega arith in
               subst (λ j. Sweeping binom w₀ w′ from n to cap count₀ count′ j) next
-              (sweeping-more regions sweeping more (taken (callLength (bytes "binom(") inner) (parted inner j)) turn a (omega arith))
+              (sweeping-more sweeping more (taken (callLength (bytes "binom(") inner) (parted inner j)) turn a (omega arith))
 
 -- what stands inside the call lies apart from the region that is written
 pub inside-apart :
-    {w₀ w : List ℕ} {from n to cap count₀ count i : ℕ} → Regions w₀ from n to cap count₀ → Sweeping binom w₀ w from n to cap count₀ count i
+    {w₀ w : List ℕ} {from n to cap count₀ count i : ℕ} → Sweeping binom w₀ w from n to cap count₀ count i
     → (k : ℕ) → i + 6 + k ≤ n → Apart (from + i + 6) k to cap
-inside-apart {from = from} {to = to} {cap} {i = i} regions sweeping k h =
+inside-apart {from = from} {to = to} {cap} {i = i} sweeping k h =
     let m : from + (i + 6) ≡ from + i + 6 = omega arith in
-    subst (λ j. Apart j k to cap) m (symbols-apart regions sweeping (i + 6) k h)
+    subst (λ j. Apart j k to cap) m (symbols-apart sweeping (i + 6) k h)

@@ -4,6 +4,7 @@ use delimiters::put_call;
 use search::Found;
 use symbols::Class;
 use symbols::Span;
+use text::Due;
 use text::Progress;
 ghost use Prim.Native.Nat.{_+_, _≤_, _<_};
 ghost use lib.ListN.{length};
@@ -91,16 +92,14 @@ fn rewrite_binoms(work: &mut [u8], from: usize, n: usize, to: usize) -> usize
     while i < n {
         let at = from + i;
         let Found::At(k) = call_at(&work[at..end], b"binom(") else {
-            let b = work[at];
-            count = text::put(work, to, text::CAP, count, b);
+            count = text::copy_one(work, at, to, text::CAP, count);
             i += 1;
             continue;
         };
         let inside = at + OPEN;
         let close = inside + k;
         let Found::At(comma) = commas::find_comma_in_args(&work[inside..close]) else {
-            let b = work[at];
-            count = text::put(work, to, text::CAP, count, b);
+            count = text::copy_one(work, at, to, text::CAP, count);
             i += 1;
             continue;
         };
@@ -114,14 +113,9 @@ pub fn convert_binom(work: &mut [u8], text: Progress) -> Progress
     requires { ⌜ Ready (now work) text ⌝ }
     ensures { λ r. ⌜ Staged (now (work .entry)) (now (work .exit)) text r (stage convertBinom) ⌝ }
 {
-    let Progress::Text(from, n) = text else {
+    let Due::Rewrite(from, n, to, _) = text::due_for(work, text, b"binom(") else {
         return text;
     };
-    let end = from + n;
-    let Found::At(_) = search::find(&work[from..end], b"binom(") else {
-        return text;
-    };
-    let to = text::CAP - from;
     let count = rewrite_binoms(work, from, n, to);
     text::finished(to, count)
 }

@@ -3,6 +3,7 @@
 use search::Found;
 use symbols::Class;
 use symbols::Span;
+use text::Due;
 use text::Progress;
 ghost use Prim.Native.Nat.{_+_, _-_, _*_, _≤_};
 ghost use mathlib.Core.List.{_++_};
@@ -98,18 +99,14 @@ pub fn convert_cases(work: &mut [u8], text: Progress) -> Progress
     requires { ⌜ Ready (now work) text ⌝ }
     ensures { λ r. ⌜ Staged (now (work .entry)) (now (work .exit)) text r (stage convertCases) ⌝ }
 {
-    let Progress::Text(from, n) = text else {
-        return text;
-    };
-    let end = from + n;
-    let Found::At(i) = search::find(&work[from..end], b"cases(") else {
+    let Due::Rewrite(from, n, to, i) = text::due_for(work, text, b"cases(") else {
         return text;
     };
     let at = from + i;
+    let end = from + n;
     let Found::At(k) = delimiters::call_at(&work[at..end], b"cases(") else {
         return text;
     };
-    let to = text::CAP - from;
     let count = rewrite_cases(work, from, n, to, i, k);
     text::finished(to, count)
 }

@@ -17,7 +17,7 @@ use Rattle.spec.specs.Calls.{callAt, rewritten, calling}
 use Rattle.spec.specs.Laws.Sweep.{Waits}
 use Rattle.symbols.specs.Parts.{part, length-part}
 use Rattle.search.specs.Search.{Closes, inside-drop}
-use Rattle.text.specs.Writer.{Regions, Appended}
+use Rattle.text.specs.Writer.{Appended}
 use Rattle.text.specs.Sweep.{Sweeping, rest, source-read, rest-read, symbols-read, sweeping-more, sweeping-kept}
 use Rattle.symbols.specs.Trim.{Narrowed, spanned}
 use Rattle.symbols.specs.declared.Span.{Span}
@@ -72,11 +72,11 @@ calling-waits name write = record { copies = λ before s e. ap (rewritten name w
 -- ---- a turn of a loop: `call_at` has looked at the rest of the text
 module _
     {name : List ℕ} {rule : Rule} {w₀ w : List ℕ} {from n to cap count₀ count i : ℕ}
-    (regions : Regions w₀ from n to cap count₀) (sweeping : Sweeping rule w₀ w from n to cap count₀ count i) (more : i < n)
+    (sweeping : Sweeping rule w₀ w from n to cap count₀ count i) (more : i < n)
     {r : Found} (called : Called name (rest from n i w) r)
   where
     pub call-read : callAt name (drop i (part from n w₀)) ≡ innerAt name (drop i (part from n w₀)) r
-    call-read = ap (callAt name) (sym (rest-read regions sweeping)) ∙ sym (called .inner) ∙ ap (λ s. innerAt name s r) (rest-read regions sweeping)
+    call-read = ap (callAt name) (sym (rest-read sweeping)) ∙ sym (called .inner) ∙ ap (λ s. innerAt name s r) (rest-read sweeping)
 
     -- the call ends within the n symbols
     pub call-fits : {k : ℕ} → r ≡ At k → i + length name + k + 1 ≤ n
@@ -88,11 +88,11 @@ module _
 -- the turn of a loop that rewrites calls
 module _
     {name : List ℕ} (write : List ℕ → List ℕ) {w₀ w : List ℕ} {from n to cap count₀ count i : ℕ}
-    (regions : Regions w₀ from n to cap count₀) (sweeping : Sweeping (calling name write) w₀ w from n to cap count₀ count i) (more : i < n)
+    (sweeping : Sweeping (calling name write) w₀ w from n to cap count₀ count i) (more : i < n)
     {r : Found} (called : Called name (rest from n i w) r)
   where
     turn-found : calling name write (getD (0 ∷ part from n w₀) i 0) (drop i (part from n w₀)) ≡ rewritten name write (drop i (part from n w₀)) (innerAt name (drop i (part from n w₀)) r)
-    turn-found = ap (rewritten name write (drop i (part from n w₀))) (call-read regions sweeping more called)
+    turn-found = ap (rewritten name write (drop i (part from n w₀))) (call-read sweeping more called)
 
     module _ {w′ : List ℕ} {count′ : ℕ} where
       pub called-here :
@@ -101,32 +101,32 @@ module _
           → Sweeping (calling name write) w₀ w′ from n to cap count₀ count′ (i + length name + k + 1)
       called-here {k} {bs} e same few a =
           let s = drop i (part from n w₀) in
-          let fits = call-fits regions sweeping more called e in
-          let l = length-part from n w₀ (regions .source) in let d = length-drop i (part from n w₀) in let g = length-drop (length name) s in
+          let fits = call-fits sweeping more called e in
+          let l = length-part from n w₀ (sweeping .regions .source) in let d = length-drop i (part from n w₀) in let g = length-drop (length name) s in
           let long : length (take k (drop (length name) s)) ≡ k = length-take-le k (drop (length name) s) (omega arith) in
           let inner : take k (drop (length name) s) ≡ take k (drop (i + length name) (part from n w₀)) = ap (take k) (drop-drop (length name) i (part from n w₀)) in
           let fresh : bs ≡ write (take k (drop (length name) s)) = same ∙ ap write (sym inner) in
           let next : i + 1 + (length name + length (take k (drop (length name) s))) ≡ i + length name + k + 1 = omega arith in
           let count-few = ap length fresh in
           subst (λ j. Sweeping (calling name write) w₀ w′ from n to cap count₀ count′ j) next
-          (sweeping-more regions sweeping more (rewritten name write s (some (take k (drop (length name) s))))
+          (sweeping-more sweeping more (rewritten name write s (some (take k (drop (length name) s))))
           (turn-found ∙ ap (λ q. rewritten name write s (innerAt name s q)) e) (subst (λ b. Appended w w′ to cap count count′ b) fresh a) (omega arith))
 
       pub copied-here : r ≡ Nothing → Appended w w′ to cap count count′ (getD w (from + i) 0 ∷ []) → Sweeping (calling name write) w₀ w′ from n to cap count₀ count′ (i + 1)
-      copied-here e a = sweeping-kept regions sweeping more (turn-found ∙ ap (λ q. rewritten name write (drop i (part from n w₀)) (innerAt name (drop i (part from n w₀)) q)) e) a
+      copied-here e a = sweeping-kept sweeping more (turn-found ∙ ap (λ q. rewritten name write (drop i (part from n w₀)) (innerAt name (drop i (part from n w₀)) q)) e) a
 
 -- what `argument_of` has found in the text is what the definition writes of the k symbols inside the call
 module _
     (trims : Bool) (left right : List ℕ) {rule : Rule} {w₀ w : List ℕ} {from n to cap count₀ count i : ℕ} (start k : ℕ) {r : Span}
-    (regions : Regions w₀ from n to cap count₀) (sweeping : Sweeping rule w₀ w from n to cap count₀ count i) (within : start + k ≤ n)
+    (sweeping : Sweeping rule w₀ w from n to cap count₀ count i) (within : start + k ≤ n)
     (narrowed : Narrowed (part from (from + n - from) w) (record { start = start; end = start + k }) r (argument trims (part start (start + k - start) (part from (from + n - from) w))))
   where
     pub argument-written : left ++ part (from + r .start) (r .end - r .start) w ++ right ≡ delimited trims left right (take k (drop start (part from n w₀)))
     argument-written =
-        let source = source-read regions sweeping in
+        let source = source-read sweeping in
         let e : start + k - start ≡ k = omega arith in
         ap (λ s. left ++ s ++ right)
-        (symbols-read regions sweeping (r .start) (r .end - r .start) (let o = narrowed .order in let t = narrowed .to in omega arith)
+        (symbols-read sweeping (r .start) (r .end - r .start) (let o = narrowed .order in let t = narrowed .to in omega arith)
         ∙ ap (spanned r) (sym source) ∙ narrowed .text ∙ ap (λ s. argument trims (part start (start + k - start) s)) source
         ∙ ap (λ m. argument trims (take m (drop start (part from n w₀)))) e)
 

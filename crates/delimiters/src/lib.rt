@@ -3,6 +3,7 @@
 use search::Found;
 use symbols::Class;
 use symbols::Span;
+use text::Due;
 use text::Progress;
 ghost use Prim.Native.Nat.{_+_, _-_, _≤_};
 ghost use mathlib.Core.List.{_++_};
@@ -79,8 +80,7 @@ fn rewrite_calls(
     while i < n {
         let at = from + i;
         let Found::At(k) = call_at(&work[at..end], name) else {
-            let b = work[at];
-            count = text::put(work, to, text::CAP, count, b);
+            count = text::copy_one(work, at, to, text::CAP, count);
             i += 1;
             continue;
         };
@@ -114,14 +114,9 @@ pub fn convert_calls(
     requires { ⌜ Fair (now name) (now left) (now right) ⌝ }
     ensures { λ r. ⌜ Staged (now (work .entry)) (now (work .exit)) text r (stage (convertCalls (now (name .entry)) (delimited trims (now (left .entry)) (now (right .entry))))) ⌝ }
 {
-    let Progress::Text(from, n) = text else {
+    let Due::Rewrite(from, n, to, _) = text::due_for(work, text, name) else {
         return text;
     };
-    let end = from + n;
-    let Found::At(_) = search::find(&work[from..end], name) else {
-        return text;
-    };
-    let to = text::CAP - from;
     let count = rewrite_calls(work, from, n, to, name, left, right, trims);
     text::finished(to, count)
 }

@@ -25,7 +25,8 @@ use Rattle.text.specs.Stage.{Ready}
 use Rattle.text.specs.declared.Refusal.{Refusal}
 use Rattle.text.specs.declared.Progress.{Progress}
 use Rattle.text.specs.declared.Progress.the-variants.{Text, Refused}
-use Rattle.entries.specs.Sized.{Within, Applied, applied-nowhere, applied-refused}
+use Rattle.text.specs.Due.{Absent}
+use Rattle.entries.specs.Sized.{Within, Applied, applied-same}
 
 abbrev pub paired : ℕ → ℕ → ℕ
 paired a b = 2 * a + b
@@ -190,10 +191,12 @@ none-found : (o : Option (List ℕ)) → not (isSome o) ≡ true → o ≡ none
 none-found none e = refl
 none-found (some s) e = absurd (false≢true e)
 
+nowhere-absent : (w pattern : List ℕ) (p : Progress) → nowhere p w pattern ≡ true → Absent w pattern p
+nowhere-absent w pattern (Text at n) e = none-found (find pattern (part at n w)) (ap not (contains-find pattern (part at n w)) ∙ e)
+nowhere-absent w pattern (Refused k) e = tt
+
 -- the entry's stage leaves every byte as it is
 pub applied-idle :
     {w : List ℕ} {p : Progress} {pattern : List ℕ} {rule : Rule} (extra : ℕ) → Ready w p → Within extra p → Waits pattern rule → nowhere p w pattern ≡ true
     → Applied w w p p extra pattern (sweep rule 0 0)
-applied-idle {w} {p = Text at n} {pattern} extra ready within waits e =
-    applied-nowhere extra ready within refl waits (none-found (find pattern (part at n w)) (ap not (contains-find pattern (part at n w)) ∙ e))
-applied-idle {p = Refused k} {pattern = pattern} {rule = rule} extra ready within waits e = applied-refused extra pattern (sweep rule 0 0) k refl
+applied-idle {w} {p} {pattern} extra ready within waits e = applied-same p extra ready within waits (nowhere-absent w pattern p e)

@@ -5,27 +5,26 @@
 --     Remaining    such stages one after another: what has been done, and what is left to do
 -- Assumes nothing.
 use mathlib.Core.Path.{_≡_, refl, sym, ap, _∙_, subst}
-use mathlib.Core.Bool.{Bool, cond}
+use mathlib.Core.Bool.{cond}
 use mathlib.Core.List.{List}
-use mathlib.Core.Logic.{⊎-elim, inl, inr}
 use mathlib.Core.Option.{Option, none, some}
-use Prim.Native.Nat.{ℕ, _+_, _-_, _≤_, _<_}
+use Prim.Native.Nat.{ℕ, _+_, _≤_, _<_}
 use native.Mathlib.Decide.{decLt}
 use native.Mathlib.Omega.{arith}
 use lib.Dec.{ltb}
-use lib.ListN.{length, drop}
+use lib.ListN.{length, drop, length-take}
 use borrow.Author.Tests.{lt-ltb, le-ltb}
 use Rattle.spec.specs.Symbols.{find}
 use Rattle.spec.specs.Sweep.{Rule, sweep}
 use Rattle.spec.specs.Laws.Sweep.{Waits, sweep-absent}
 use Rattle.spec.specs.Result.{Result, passed, refused, _then_, mostSymbols, stage}
-use Rattle.symbols.specs.Parts.{part, length-part, whole-part}
-use Rattle.search.specs.Search.{Finds, finds-at, finds-nothing}
-use Rattle.text.specs.Written.{Written, wrote-text, wrote-beyond}
-use Rattle.text.specs.Stage.{Placed, Ready, Answered, Staged, shown, placed-text, placed-fits, placed-regions}
-use Rattle.search.specs.declared.Found.{Found}
-use Rattle.search.specs.declared.Found.the-variants.{At, Nothing}
-use Rattle.text.specs.declared.Refusal.{Refusal}
+use Rattle.symbols.specs.Parts.{part}
+use Rattle.text.specs.Writer.{Appended}
+use Rattle.text.specs.Written.{appended-text}
+use Rattle.text.specs.Stage.{Placed, Ready, Staged, shown}
+use Rattle.text.specs.Due.{Absent, Occurs, Told, Awaited, occurs, staged-answer, other-placed}
+use Rattle.text.specs.declared.Due.{Due}
+use Rattle.text.specs.declared.Due.the-variants.{Rewrite, Nothing}
 use Rattle.text.specs.declared.Refusal.the-variants.{Overgrown}
 use Rattle.text.specs.declared.Progress.{Progress}
 use Rattle.text.specs.declared.Progress.the-variants.{Text, Refused}
@@ -69,105 +68,66 @@ pub within-none : {w : List ℕ} (p : Progress) → Ready w p → Within 0 p
 within-none (Text at n) ready = let h = ready .placed .1 in omega arith
 within-none (Refused k) ready = tt
 
--- ---- a text that has been refused before
-pub applied-refused :
-    {w : List ℕ} {p : Progress} (extra : ℕ) (pattern : List ℕ) (f : List ℕ → List ℕ) (k : Refusal) → p ≡ Refused k → Applied w w p p extra pattern f
-applied-refused {w} {p} extra pattern f k e =
+-- ---- there is nothing to do: the text has been refused before, or the pattern is nowhere in it
+pub applied-same :
+    {w : List ℕ} (p : Progress) {pattern : List ℕ} {rule : Rule} (extra : ℕ) → Ready w p → Within extra p → Waits pattern rule → Absent w pattern p
+    → Applied w w p p extra pattern (sweep rule 0 0)
+applied-same {w} (Text from n) {rule = rule} extra ready within waits absent =
+    let l = length-take n (drop from w) in
+    let short : length (part from n w) + extra ≤ mostSymbols = omega arith in
     record {
       staged = record {
-        answered = record { answer = ap (λ q. shown q w) e ∙ ap (λ q. shown q w then sized extra f) (sym e); long = refl; placed = subst Placed (sym e) tt };
+        answered = record { answer = sym (rw (sweep-absent waits (part from n w) 0 absent, le-ltb mostSymbols (length (part from n w) + extra) short)); long = refl; placed = ready .placed };
         beyond = refl;
       };
-      within = subst (Within extra) (sym e) tt;
-      idle = λ at n e absent. (refl, refl);
+      within = within;
+      idle = λ at n same absent. (refl, refl);
+    }
+applied-same (Refused k) extra ready within waits absent =
+    record {
+      staged = record { answered = record { answer = refl; long = refl; placed = tt }; beyond = refl };
+      within = tt;
+      idle = λ at n same absent. (refl, refl);
     }
 
-module _ {w : List ℕ} {p : Progress} {from n : ℕ} (extra : ℕ) (ready : Ready w p) (within : Within extra p) (e : p ≡ Text from n) where
-  pub within-text : n + extra ≤ mostSymbols
-  within-text = subst (Within extra) e within
-
-  -- ---- the pattern is nowhere in the text
-  pub applied-nowhere :
-      {pattern : List ℕ} {rule : Rule} → Waits pattern rule → find pattern (part from n w) ≡ none
-      → Applied w w p (Text from n) extra pattern (sweep rule 0 0)
-  applied-nowhere {pattern} {rule} waits absent =
-      let same = sweep-absent waits (part from n w) 0 absent in
-      let long = ready .long in let fits = placed-fits ready e in let short : n + extra ≤ mostSymbols = within-text in
-      let l = length-part from n w (omega arith) in
-      record {
-        staged = record {
-          answered = record {
-            answer = sym (ap (λ q. shown q w then sized extra (sweep rule 0 0)) e ∙ ap judged same ∙ passes (part from n w) (omega arith));
-            long = refl;
-            placed = placed-text ready e;
-          };
-          beyond = refl;
-        };
-        within = within-text;
-        idle = λ at n same absent. (refl, sym e);
-      }
-    where
-      judged : List ℕ → Result (List ℕ)
-      judged t = cond (ltb mostSymbols (length t + extra)) (refused 5) (passed t)
-
-      passes : (t : List ℕ) → length t + extra ≤ mostSymbols → judged t ≡ passed t
-      passes t h = rw (le-ltb mostSymbols (length t + extra) h)
-
-  pub applied-absent :
-      {pattern : List ℕ} {rule : Rule} {r : Found} → Waits pattern rule
-      → Finds (part from (from + n - from) w) r (find pattern (part from (from + n - from) w)) → r ≡ Nothing
-      → Applied w w p (Text from n) extra pattern (sweep rule 0 0)
-  applied-absent {pattern} waits finds nothing = applied-nowhere waits (ap (find pattern) (sym (whole-part from n w)) ∙ finds-nothing finds nothing)
+module _ {w : List ℕ} {p : Progress} {pattern : List ℕ} {r : Due} (extra : ℕ) (awaited : Awaited w p pattern r) (within : Within extra p) where
+  pub applied-absent : {rule : Rule} → r ≡ Nothing → Waits pattern rule → Applied w w p p extra pattern (sweep rule 0 0)
+  applied-absent e waits = applied-same p extra (awaited .ready) within waits (subst (Told w p pattern) e (awaited .told))
 
   -- ---- the text has been rewritten to the other region
-  pub applied-written :
-      {w′ : List ℕ} {count : ℕ} {p′ : Progress} {pattern : List ℕ} {r : Found} {k : ℕ} (f : List ℕ → List ℕ)
-      → Finds (part from (from + n - from) w) r (find pattern (part from (from + n - from) w)) → r ≡ At k
-      → Written w w′ (8192 - from) 8192 count (f (part from n w)) → p′ ≡ judgedWithin extra (8192 - from) count
-      → Applied w w′ p p′ extra pattern f
-  applied-written {w′} {count} {p′} {pattern} {k = k} f finds found written j =
-      record {
-        staged = record {
-          answered = record {
-            answer = ap (λ q. shown q w′) j ∙ judged-shown (decLt mostSymbols (count + extra)) ∙ sym (ap (λ q. shown q w then sized extra f) e);
-            long = written .wrote .long;
-            placed = subst Placed (sym j) (judged-placed (decLt mostSymbols (count + extra)));
-          };
-          beyond = wrote-beyond {k = 16384} (written .wrote) (let r = placed-regions ready e .region in ⊎-elim (λ z. omega arith) (λ z. omega arith) (placed-text ready e .0));
-        };
-        within = subst (Within extra) (sym j) (judged-within (decLt mostSymbols (count + extra)));
-        idle = λ at m same absent. (let z : _≡_ {A = ℕ} 0 1 = cc (absent-at at m same absent) in absurd (omega arith));
-      }
-    where
-      t : List ℕ
-      t = f (part from n w)
+  module _ {from n to i : ℕ} (e : r ≡ Rewrite from n to i) where
+    pub within-text : n + extra ≤ mostSymbols
+    within-text = subst (Within extra) (occurs awaited e .text) within
 
-      place : Progress → List ℕ
-      place (Text at m) = part at m w
-      place (Refused k) = part 0 0 w
+    pub applied-written :
+        {w′ : List ℕ} {count : ℕ} {p′ : Progress} (f : List ℕ → List ℕ) → Appended w w′ to 8192 0 count (f (part from n w)) → p′ ≡ judgedWithin extra to count
+        → Applied w w′ p p′ extra pattern f
+    applied-written {w′} {count} {p′} f a j =
+        let right = subst (λ q. (shown q w′ ≡ sized extra f (part from n w)) × Placed q × Within extra q) (sym j) (judged-right (decLt mostSymbols (count + extra))) in
+        record {
+          staged = staged-answer awaited e (sized extra f) a (right .0) (right .1);
+          within = right .2;
+          idle = λ at m same absent. (let z : _≡_ {A = ℕ} 0 1 = cc (absent-at at m same absent) in absurd (omega arith));
+        }
+      where
+        o : Occurs w p pattern from n to i
+        o = occurs awaited e
 
-      absent-at : (at m : ℕ) → p ≡ Text at m → find pattern (part at m w) ≡ none → _≡_ {A = Option (List ℕ)} none (some (drop k (part from (from + n - from) w)))
-      absent-at at m same absent =
-          sym absent ∙ ap (find pattern) (ap place (sym same) ∙ ap place e ∙ sym (whole-part from n w)) ∙ finds-at finds found
+        place : Progress → List ℕ
+        place (Text at m) = part at m w
+        place (Refused k) = part 0 0 w
 
-      judged-shown : Dec (mostSymbols < count + extra) → shown (judgedWithin extra (8192 - from) count) w′ ≡ sized extra f (part from n w)
-      judged-shown (yes h) =
-          let c = written .counted in
-          rw (lt-ltb mostSymbols (count + extra) h, lt-ltb mostSymbols (length t + extra) (omega arith))
-      judged-shown (no h) =
-          let c = written .counted in let l : count + extra ≤ mostSymbols = omega arith in
-          rw (le-ltb mostSymbols (count + extra) l, le-ltb mostSymbols (length t + extra) (omega arith))
-          (ap passed (ap (λ m. part (8192 - from) m w′) c ∙ wrote-text (written .wrote) (placed-regions ready e .region) (omega arith)))
+        absent-at : (at m : ℕ) → p ≡ Text at m → find pattern (part at m w) ≡ none → _≡_ {A = Option (List ℕ)} none (some (drop i (part from n w)))
+        absent-at at m same absent = sym absent ∙ ap (find pattern) (ap place (sym same ∙ o .text)) ∙ o .found
 
-      judged-placed : Dec (mostSymbols < count + extra) → Placed (judgedWithin extra (8192 - from) count)
-      judged-placed (yes h) = rw (lt-ltb mostSymbols (count + extra) h) tt
-      judged-placed (no h) =
-          let l : count + extra ≤ mostSymbols = omega arith in
-          rw (le-ltb mostSymbols (count + extra) l) (⊎-elim (λ z. inr (omega arith)) (λ z. inl (omega arith)) (placed-text ready e .0), omega arith)
-
-      judged-within : Dec (mostSymbols < count + extra) → Within extra (judgedWithin extra (8192 - from) count)
-      judged-within (yes h) = rw (lt-ltb mostSymbols (count + extra) h) tt
-      judged-within (no h) = let l : count + extra ≤ mostSymbols = omega arith in rw (le-ltb mostSymbols (count + extra) l) l
+        judged-right : Dec (mostSymbols < count + extra) → (let q = judgedWithin extra to count in (shown q w′ ≡ sized extra f (part from n w)) × Placed q × Within extra q)
+        judged-right (yes h) =
+            let c = a .counted in
+            rw (lt-ltb mostSymbols (count + extra) h, lt-ltb mostSymbols (length (f (part from n w)) + extra) (omega arith)) (refl, tt, tt)
+        judged-right (no h) =
+            let c = a .counted in let l : count + extra ≤ mostSymbols = omega arith in
+            rw (le-ltb mostSymbols (count + extra) l, le-ltb mostSymbols (length (f (part from n w)) + extra) (omega arith))
+            (ap passed (appended-text a (o .regions .region) (omega arith)), (other-placed awaited e, omega arith), l)
 
 -- the same stage by another definition
 pub applied-alike :

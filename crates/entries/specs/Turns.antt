@@ -10,50 +10,56 @@ use Rattle.spec.specs.Symbols.{starts}
 use Rattle.spec.specs.Laws.Symbols.{starts-long}
 use Rattle.spec.specs.Laws.Booleans.{and-left}
 use Rattle.symbols.specs.Parts.{part, length-part}
-use Rattle.text.specs.Writer.{Regions, Appended}
+use Rattle.text.specs.Writer.{Appended}
 use Rattle.text.specs.Sweep.{Sweeping, source-read, sweeping-more, sweeping-kept}
 use Rattle.entries.specs.declared.bounds.Bounds.{Bounds}
-use Rattle.entries.specs.Bounded.{Fair, allowed, stands, spares, bounded}
+use Rattle.entries.specs.Bounded.{Fair, stands, spares, bounded}
 
 written-few : {pattern fresh : List ℕ} (t : Bool) → Fair pattern fresh → length (cond t pattern fresh) ≤ 1024 * (1 + pred (length pattern))
 written-few true fair = let h = fair .some in let s = fair .short in omega arith
 written-few false fair = let h = fair .few in omega arith
 
+-- a turn of the loop: whether the pattern stands at place i has been asked of the text, as the code reads it
 module _
     (b : Bounds) (pattern fresh : List ℕ) {w₀ w : List ℕ} {from n to cap count₀ count i : ℕ}
-    (regions : Regions w₀ from n to cap count₀) (sweeping : Sweeping (bounded b pattern fresh) w₀ w from n to cap count₀ count i) (more : i < n)
+    (sweeping : Sweeping (bounded b pattern fresh) w₀ w from n to cap count₀ count i) (more : i < n)
+    {met : Bool} (test : met ≡ stands b pattern (getD (0 ∷ part from (from + n - from) w) i 0) (drop i (part from (from + n - from) w)))
   where
-    pub seen-stands : {r : Bool} → r ≡ stands b pattern (getD (0 ∷ part from (from + n - from) w) i 0) (drop i (part from (from + n - from) w)) → stands b pattern (getD (0 ∷ part from n w₀) i 0) (drop i (part from n w₀)) ≡ r
-    seen-stands e = ap (λ t. stands b pattern (getD (0 ∷ t) i 0) (drop i t)) (sym (source-read regions sweeping)) ∙ sym e
+    abbrev before : ℕ
+    before = getD (0 ∷ part from n w₀) i 0
 
-    pub seen-spares : {r : Bool} → r ≡ spares b pattern (getD (0 ∷ part from (from + n - from) w) i 0) (drop i (part from (from + n - from) w)) → spares b pattern (getD (0 ∷ part from n w₀) i 0) (drop i (part from n w₀)) ≡ r
-    seen-spares e = ap (λ t. spares b pattern (getD (0 ∷ t) i 0) (drop i t)) (sym (source-read regions sweeping)) ∙ sym e
+    abbrev here : List ℕ
+    here = drop i (part from n w₀)
+
+    stands-here : stands b pattern before here ≡ met
+    stands-here = ap (λ t. stands b pattern (getD (0 ∷ t) i 0) (drop i t)) (sym (source-read sweeping)) ∙ sym test
+
+    turn-here : bounded b pattern fresh before here ≡ cond met (taken (length pattern) (cond (spares b pattern before here) pattern fresh)) (kept here)
+    turn-here = ap (λ t. cond t (taken (length pattern) (cond (spares b pattern before here) pattern fresh)) (kept here)) stands-here
 
     pub copied-here :
-        {w′ : List ℕ} {count′ : ℕ} → stands b pattern (getD (0 ∷ part from n w₀) i 0) (drop i (part from n w₀)) ≡ false → Appended w w′ to cap count count′ (getD w (from + i) 0 ∷ [])
+        {w′ : List ℕ} {count′ : ℕ} → met ≡ false → Appended w w′ to cap count count′ (getD w (from + i) 0 ∷ [])
         → Sweeping (bounded b pattern fresh) w₀ w′ from n to cap count₀ count′ (i + 1)
-    copied-here other a =
-        sweeping-kept regions sweeping more
-        (ap (λ t. cond t (taken (length pattern) (cond (spares b pattern (getD (0 ∷ part from n w₀) i 0) (drop i (part from n w₀))) pattern fresh)) (kept (drop i (part from n w₀)))) other) a
+    copied-here other a = sweeping-kept sweeping more (rw other at turn-here) a
 
-    module _ (fair : Fair pattern fresh) (met : stands b pattern (getD (0 ∷ part from n w₀) i 0) (drop i (part from n w₀)) ≡ true) where
+    module _ (fair : Fair pattern fresh) (stood : met ≡ true) where
       -- the pattern lies within the text
       pub taken-within : i + length pattern ≤ n
       taken-within =
-          let l = starts-long pattern (drop i (part from n w₀)) (and-left (starts pattern (drop i (part from n w₀))) _ met) in
+          let l = starts-long pattern here (and-left (starts pattern here) _ (stands-here ∙ stood)) in
           let d = length-drop i (part from n w₀) in
-          let p = length-part from n w₀ (regions .source) in
+          let p = length-part from n w₀ (sweeping .regions .source) in
           omega arith
 
       pub written-here :
-          {w′ : List ℕ} {count′ : ℕ} {spared : Bool} → spares b pattern (getD (0 ∷ part from n w₀) i 0) (drop i (part from n w₀)) ≡ spared
+          {w′ : List ℕ} {count′ : ℕ} {spared : Bool} → spared ≡ spares b pattern (getD (0 ∷ part from (from + n - from) w) i 0) (drop i (part from (from + n - from) w))
           → Appended w w′ to cap count count′ (cond spared pattern fresh)
           → Sweeping (bounded b pattern fresh) w₀ w′ from n to cap count₀ count′ (i + length pattern)
       written-here {w′} {count′} {spared} e a =
           let h = fair .some in
           let next : i + 1 + pred (length pattern) ≡ i + length pattern = omega arith in
+          let spares-here : spares b pattern before here ≡ spared = ap (λ t. spares b pattern (getD (0 ∷ t) i 0) (drop i t)) (sym (source-read sweeping)) ∙ sym e in
           subst (λ j. Sweeping (bounded b pattern fresh) w₀ w′ from n to cap count₀ count′ j) next
-          (sweeping-more regions sweeping more (taken (length pattern) (cond spared pattern fresh))
-          (ap (λ t. cond t (taken (length pattern) (cond (spares b pattern (getD (0 ∷ part from n w₀) i 0) (drop i (part from n w₀))) pattern fresh)) (kept (drop i (part from n w₀)))) met
-          ∙ ap (λ t. taken (length pattern) (cond t pattern fresh)) e)
+          (sweeping-more sweeping more (taken (length pattern) (cond spared pattern fresh))
+          ((rw stood at turn-here) ∙ ap (λ t. taken (length pattern) (cond t pattern fresh)) spares-here)
           a (written-few spared fair))

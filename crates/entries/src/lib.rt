@@ -8,7 +8,7 @@ mod presence;
 pub use bounds::Bounds;
 pub use presence::is_nowhere;
 pub use presence::mark;
-use search::Found;
+use text::Due;
 use text::Progress;
 use text::Refusal;
 ghost use mathlib.Core.Path.{_≡_};
@@ -82,8 +82,7 @@ fn rewrite(
     let mut i = 0;
     while i < n {
         if !stands(&work[from..end], i, bounds, pattern) {
-            let b = work[from + i];
-            count = text::put(work, to, text::CAP, count, b);
+            count = text::copy_one(work, from + i, to, text::CAP, count);
             i += 1;
             continue;
         }
@@ -119,14 +118,9 @@ pub fn apply(
     requires { ⌜ Fair (now pattern) (now fresh) ⌝ }
     ensures { λ r. ⌜ Applied (now (work .entry)) (now (work .exit)) text r extra (now (pattern .entry)) (sweep (bounded bounds (now (pattern .entry)) (now (fresh .entry))) 0 0) ⌝ }
 {
-    let Progress::Text(from, n) = text else {
+    let Due::Rewrite(from, n, to, _) = text::due_for(work, text, pattern) else {
         return text;
     };
-    let end = from + n;
-    let Found::At(_) = search::find(&work[from..end], pattern) else {
-        return text;
-    };
-    let to = text::CAP - from;
     let count = rewrite(work, from, n, to, bounds, pattern, fresh);
     finished(to, count, extra)
 }

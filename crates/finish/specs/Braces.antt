@@ -15,8 +15,7 @@ use Rattle.spec.specs.Symbols.{bytes, is, head, find, starts}
 use Rattle.spec.specs.Closing.{close}
 use Rattle.spec.specs.Finish.{groupsBehind, top, popped, brace, escapeBraces, escapeSetBraces}
 use Rattle.spec.specs.Laws.Symbols.{drop-step}
-use Rattle.symbols.specs.Parts.{part, length-part, whole-part}
-use Rattle.search.specs.Search.{Finds, finds-nothing}
+use Rattle.symbols.specs.Parts.{part, length-part}
 use Rattle.text.specs.Writer.{Regions, Appended}
 use Rattle.text.specs.Filling.{Filling, filling-more, filling-source, filling-symbol, passed-by, passed-more, passed-head}
 use Rattle.closing.specs.Backward.{ClosesBack, back-at, back-within, back-nothing, head-before}
@@ -123,11 +122,6 @@ escape-none before (x ∷ s) e = go (is "{" x) refl (is "}" x) refl (escape-none
 pub escape-absent : (s : List ℕ) → find (bytes "{") s ≡ none → escapeSetBraces s ≡ s
 unfolding escapeSetBraces
 escape-absent s e = escape-none 0 s e
-
-pub escape-nowhere :
-    (from n : ℕ) (w : List ℕ) {r : Found} → Finds (part from (from + n - from) w) r (find (bytes "{") (part from (from + n - from) w)) → r ≡ Nothing
-    → escapeSetBraces (part from n w) ≡ part from n w
-escape-nowhere from n w finds nothing = escape-absent (part from n w) (ap (find (bytes "{")) (sym (whole-part from n w)) ∙ finds-nothing finds nothing)
 
 -- ---- a turn of the loop: the symbol at place i has been written
 module _

@@ -1,6 +1,7 @@
 // Braces that are set notation become `\{` and `\}`. A brace groups behind a script sign, another brace, a letter, a digit or a
 // backslash. Its closer goes with it: instead of the Rust's stack, the opener is looked for backwards.
 use search::Found;
+use text::Due;
 use text::Progress;
 ghost use Prim.Native.Nat.{_+_, _≤_, _<_};
 ghost use mathlib.Core.Path.{_≡_};
@@ -84,14 +85,9 @@ pub fn escape_set_braces(work: &mut [u8], text: Progress) -> Progress
     requires { ⌜ Ready (now work) text ⌝ }
     ensures { λ r. ⌜ Staged (now (work .entry)) (now (work .exit)) text r (stage escapeSetBraces) ⌝ }
 {
-    let Progress::Text(from, n) = text else {
+    let Due::Rewrite(from, n, to, _) = text::due_for(work, text, b"{") else {
         return text;
     };
-    let end = from + n;
-    let Found::At(_) = search::find(&work[from..end], b"{") else {
-        return text;
-    };
-    let to = text::CAP - from;
     let count = escape(work, from, n, to);
     text::finished(to, count)
 }

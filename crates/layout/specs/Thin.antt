@@ -16,8 +16,8 @@ use borrow.Author.Tests.{eqb-true, eqb-false, eq-eqb, ne-eqb, lt-ltb}
 use Rattle.spec.specs.Symbols.{bytes, is, letter, head, same, empty, until, dropWhile, starts, find}
 use Rattle.spec.specs.Finish.{atomCommands, oneOf, spacingCommand, spacing, gapFrom, gap, thinSpaces, dropThinSpaceAfterCommands}
 use Rattle.spec.specs.Laws.Symbols.{drop-step, starts-long}
-use Rattle.symbols.specs.Parts.{part, length-part, whole-part, rest-part, getD-before, sub-part}
-use Rattle.search.specs.Search.{Finds, finds-nothing, reach, until-drop}
+use Rattle.symbols.specs.Parts.{part, length-part, rest-part, getD-before, sub-part}
+use Rattle.search.specs.Search.{reach, until-drop}
 use Rattle.text.specs.Writer.{Regions, Appended, appended-part}
 use Rattle.text.specs.Sweep.{rest}
 use Rattle.text.specs.Filling.{Filling, filling-more, filling-symbol, passed-by, passed-more, passed-head}
@@ -203,11 +203,9 @@ thin-none p (x ∷ s) e = go (starts (bytes "\\;") (x ∷ s)) refl (thin-none (x
     go true b rest e = let z : _≡_ {A = ℕ} 0 1 = cc in absurd (omega arith)
     go false b rest e = thin-symbol p x s b ∙ ap (λ l. x ∷ l) (rest e)
 
-pub thin-nowhere :
-    (from n : ℕ) (w : List ℕ) {r : Found} → Finds (part from (from + n - from) w) r (find (bytes "\\;") (part from (from + n - from) w)) → r ≡ Nothing
-    → dropThinSpaceAfterCommands (part from n w) ≡ part from n w
+pub thin-absent : (s : List ℕ) → find (bytes "\\;") s ≡ none → dropThinSpaceAfterCommands s ≡ s
 unfolding dropThinSpaceAfterCommands
-thin-nowhere from n w finds nothing = thin-none [] (part from n w) (ap (find (bytes "\\;")) (sym (whole-part from n w)) ∙ finds-nothing finds nothing)
+thin-absent s e = thin-none [] s e
 
 -- ---- a turn of the loop
 module _

@@ -1,6 +1,7 @@
 // A thin space `\;` is dropped behind a control word, which carries its own spacing. Whether one stands there is told by the last
 // backslash since the thin space before; what was written since then is what was read.
 use search::Found;
+use text::Due;
 use text::Progress;
 ghost use mathlib.Core.Path.{_≡_};
 ghost use mathlib.Core.List.{reverse};
@@ -125,8 +126,7 @@ fn drop_gaps(work: &mut [u8], from: usize, n: usize, to: usize) -> usize
             start = i;
             continue;
         }
-        let b = work[at];
-        count = text::put(work, to, text::CAP, count, b);
+        count = text::copy_one(work, at, to, text::CAP, count);
         i += 1;
     }
     count
@@ -136,14 +136,9 @@ pub fn drop_thin_space_after_commands(work: &mut [u8], text: Progress) -> Progre
     requires { ⌜ Ready (now work) text ⌝ }
     ensures { λ r. ⌜ Staged (now (work .entry)) (now (work .exit)) text r (stage dropThinSpaceAfterCommands) ⌝ }
 {
-    let Progress::Text(from, n) = text else {
+    let Due::Rewrite(from, n, to, _) = text::due_for(work, text, b"\\;") else {
         return text;
     };
-    let end = from + n;
-    let Found::At(_) = search::find(&work[from..end], b"\\;") else {
-        return text;
-    };
-    let to = text::CAP - from;
     let count = drop_gaps(work, from, n, to);
     text::finished(to, count)
 }

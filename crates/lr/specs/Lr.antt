@@ -15,12 +15,12 @@ use Rattle.spec.specs.Symbols.{bytes, is, head, past, starts, find}
 use Rattle.spec.specs.Sweep.{sweep, reached}
 use Rattle.spec.specs.Calls.{callAt, rewritten}
 use Rattle.spec.specs.Finish.{Delimiters, delimiters, latexLr, lr, bareDelimiter, convertLr}
-use Rattle.spec.specs.Result.{refused, stage}
+use Rattle.spec.specs.Result.{passed, refused, mostSymbols, grown, stage}
 use Rattle.spec.specs.Laws.Symbols.{head-drop, past-drop}
 use Rattle.spec.specs.Laws.Sweep.{Waits, sweep-absent}
 use Rattle.symbols.specs.Parts.{part, length-part, sub-part, whole-part}
-use Rattle.search.specs.Search.{Finds, finds-nothing}
-use Rattle.text.specs.Writer.{Regions, Appended}
+use Rattle.text.specs.Stage.{grown-short}
+use Rattle.text.specs.Writer.{Appended}
 use Rattle.text.specs.Sweep.{Sweeping, rest, symbols-read}
 use Rattle.search.specs.declared.Found.{Found}
 use Rattle.search.specs.declared.Found.the-variants.{At, Nothing}
@@ -115,17 +115,6 @@ unlike s e = ap bareIn (sym (called-not lrName s e .inner))
 pub lr-waits : Waits lrName lr
 lr-waits = calling-waits lrName latexLr
 
--- a text in which the name does not occur
-module _ (from n : ℕ) (w : List ℕ) {r : Found} (finds : Finds (part from (from + n - from) w) r (find lrName (part from (from + n - from) w))) (nothing : r ≡ Nothing) where
-  absent : find lrName (part from n w) ≡ none
-  absent = ap (find lrName) (sym (whole-part from n w)) ∙ finds-nothing finds nothing
-
-  pub absent-sweep : sweep lr 0 0 (part from n w) ≡ part from n w
-  absent-sweep = sweep-absent lr-waits (part from n w) 0 absent
-
-  pub absent-reached : reached bareDelimiter lr 0 0 (part from n w) ≡ false
-  absent-reached = reached-absent bareDelimiter lr-waits unlike (part from n w) 0 absent
-
 pub record Bared (w w′ : List ℕ) (from n to : ℕ) : Type 0 where
   pub reaches : reached bareDelimiter lr 0 0 (part from n w) ≡ true
   pub out : List ℕ
@@ -148,21 +137,28 @@ pub convert-lr-sized : (s : List ℕ) → reached bareDelimiter lr 0 0 s ≡ fal
 unfolding convertLr
 convert-lr-sized s e = rw (e, convertLr)
 
+-- a text in which the name does not occur
+pub lr-absent : (s : List ℕ) → length s ≤ mostSymbols → find lrName s ≡ none → convertLr s ≡ passed s
+lr-absent s short absent =
+    sym (convert-lr-sized s (reached-absent bareDelimiter lr-waits unlike s 0 absent))
+    ∙ ap (λ t. grown t t) (sweep-absent lr-waits s 0 absent)
+    ∙ grown-short s short
+
 -- ---- a turn of the loop: `call_at` has looked at the rest of the text
 module _
     {w₀ w : List ℕ} {from n to cap count₀ count i : ℕ}
-    (regions : Regions w₀ from n to cap count₀) (sweeping : Sweeping lr w₀ w from n to cap count₀ count i) (more : i < n)
+    (sweeping : Sweeping lr w₀ w from n to cap count₀ count i) (more : i < n)
     {r : Found} (called : Called lrName (rest from n i w) r)
   where
     abbrev source : List ℕ
     source = part from n w₀
 
     inside-i : i < length source
-    inside-i = let l = length-part from n w₀ (regions .source) in omega arith
+    inside-i = let l = length-part from n w₀ (sweeping .regions .source) in omega arith
 
     pub no-call : r ≡ Nothing → comes bareDelimiter lr source i ≡ comes bareDelimiter lr source (i + 1)
     no-call e =
-        let none-here : callAt lrName (drop i source) ≡ none = call-read regions sweeping more called ∙ ap (innerAt lrName (drop i source)) e in
+        let none-here : callAt lrName (drop i source) ≡ none = call-read sweeping more called ∙ ap (innerAt lrName (drop i source)) e in
         let next : i + 1 + 0 ≡ i + 1 = omega arith in
         comes-turn bareDelimiter lr source i inside-i (ap (rewritten lrName latexLr (drop i source)) none-here)
         ∙ ap (λ o. bareIn o || comes bareDelimiter lr source (i + 1 + 0)) none-here
@@ -170,18 +166,18 @@ module _
 
     module _ {k : ℕ} (e : r ≡ At k) where
       fits : i + 3 + k + 1 ≤ n
-      fits = call-fits regions sweeping more called e
+      fits = call-fits sweeping more called e
 
       -- what stands inside, as the code takes it
       pub inner-read : part (from + (i + 3)) k w ≡ take k (drop (i + 3) source)
-      inner-read = symbols-read regions sweeping (i + 3) k (let f = fits in omega arith)
+      inner-read = symbols-read sweeping (i + 3) k (let f = fits in omega arith)
 
       call-here : callAt lrName (drop i source) ≡ some (part (from + (i + 3)) k w)
-      call-here = call-read regions sweeping more called ∙ ap (innerAt lrName (drop i source)) e ∙ ap (λ s. some (take k s)) (drop-drop 3 i source) ∙ ap some (sym inner-read)
+      call-here = call-read sweeping more called ∙ ap (innerAt lrName (drop i source)) e ∙ ap (λ s. some (take k s)) (drop-drop 3 i source) ∙ ap some (sym inner-read)
 
       inner-long : length (part (from + (i + 3)) k w) ≡ k
       inner-long =
-          let l = length-part from n w₀ (regions .source) in let f = fits in let d = length-drop (i + 3) source in
+          let l = length-part from n w₀ (sweeping .regions .source) in let f = fits in let d = length-drop (i + 3) source in
           ap length inner-read ∙ length-take-le k (drop (i + 3) source) (omega arith)
 
       -- the test for number 8, as the code makes it

@@ -1,6 +1,7 @@
 // The stage `lr`. Of `lr(`..`)` the first symbol inside says which delimiters are written, and the last is dropped unread. A delimiter
 // that stands alone inside is number 8.
 use search::Found;
+use text::Due;
 use text::Progress;
 use text::Refusal;
 ghost use Prim.Native.Nat.{_+_, _≤_, _<_};
@@ -83,8 +84,7 @@ fn rewrite_lr(work: &mut [u8], from: usize, n: usize, to: usize) -> Ended
     while i < n {
         let at = from + i;
         let Found::At(k) = lr_at(&work[at..end]) else {
-            let b = work[at];
-            count = text::put(work, to, text::CAP, count, b);
+            count = text::copy_one(work, at, to, text::CAP, count);
             i += 1;
             continue;
         };
@@ -105,14 +105,9 @@ pub fn convert_lr(work: &mut [u8], text: Progress) -> Progress
     requires { ⌜ Ready (now work) text ⌝ }
     ensures { λ r. ⌜ Staged (now (work .entry)) (now (work .exit)) text r convertLr ⌝ }
 {
-    let Progress::Text(from, n) = text else {
+    let Due::Rewrite(from, n, to, _) = text::due_for(work, text, b"lr(") else {
         return text;
     };
-    let end = from + n;
-    let Found::At(_) = search::find(&work[from..end], b"lr(") else {
-        return text;
-    };
-    let to = text::CAP - from;
     let Ended::Length(count) = rewrite_lr(work, from, n, to) else {
         return Progress::Refused(Refusal::BareDelimiter);
     };

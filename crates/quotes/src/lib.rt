@@ -1,9 +1,9 @@
 // Quoted text: `"..."` becomes `\text{...}`, with a thin space where a letter, digit, closing brace or another quote is its
 // neighbour. Blanks before such a neighbour are dropped, also those written already: what has been written is never read back, its
 // end is handed on by value.
-use search::Found;
 use symbols::Class;
 use symbols::Span;
+use text::Due;
 use text::Progress;
 ghost use mathlib.Core.Path.{_≡_};
 ghost use Prim.Native.Nat.{_≤_, _<_};
@@ -157,14 +157,9 @@ pub fn convert_text_quotes(work: &mut [u8], text: Progress) -> Progress
     requires { ⌜ Ready (now work) text ⌝ }
     ensures { λ r. ⌜ Staged (now (work .entry)) (now (work .exit)) text r (stage convertTextQuotes) ⌝ }
 {
-    let Progress::Text(from, n) = text else {
+    let Due::Rewrite(from, n, to, _) = text::due_for(work, text, b"\"") else {
         return text;
     };
-    let end = from + n;
-    let Found::At(_) = search::find(&work[from..end], b"\"") else {
-        return text;
-    };
-    let to = text::CAP - from;
     let count = rewrite_quotes(work, from, n, to);
     text::finished(to, count)
 }

@@ -8,7 +8,7 @@ use lib.ListN.{length, getD, take, drop, length-take, length-append}
 use lib.Seq.{drop-drop}
 use Rattle.spec.specs.Sweep.{Rule}
 use Rattle.symbols.specs.Parts.{part}
-use Rattle.text.specs.Writer.{Regions, Appended}
+use Rattle.text.specs.Writer.{Appended}
 use Rattle.text.specs.Sweep.{Sweeping, rest, rest-read, symbols-read, sweeping-more, sweeping-kept}
 use Rattle.symbols.specs.Trim.{spanned}
 use Rattle.symbols.specs.declared.Span.{Span}
@@ -23,11 +23,11 @@ written-few left s false taken l h some = simp length-append (omega arith)
 
 module _
     {rule : Rule} {left w₀ w : List ℕ} {from n to cap count₀ count i : ℕ}
-    (regions : Regions w₀ from n to cap count₀) (sweeping : Sweeping rule w₀ w from n to cap count₀ count i) (more : i < n)
+    (sweeping : Sweeping rule w₀ w from n to cap count₀ count i) (more : i < n)
     {r : Edit} (edited : Edited rule left (rest from n i w) r)
   where
     turn-found : rule (getD (0 ∷ part from n w₀) i 0) (drop i (part from n w₀)) ≡ turnOf left (drop i (part from n w₀)) r
-    turn-found = subst (λ s. rule (getD (0 ∷ part from n w₀) i 0) s ≡ turnOf left s r) (rest-read regions sweeping) (edited .turn (getD (0 ∷ part from n w₀) i 0))
+    turn-found = subst (λ s. rule (getD (0 ∷ part from n w₀) i 0) s ≡ turnOf left s r) (rest-read sweeping) (edited .turn (getD (0 ∷ part from n w₀) i 0))
 
     module _ {span : Span} {taken : ℕ} {closed : Bool} (e : r ≡ Write span taken closed) where
       pub edit-fits : Fits (rest from n i w) span taken
@@ -48,15 +48,15 @@ module _
           let s = drop i (part from n w₀) in
           let f = edit-fits in let h = edit-within in let o = f .order in let d = f .inside in let m = f .some in
           let kept-symbols : part (from + (i + span .start)) (span .end - span .start) w ≡ spanned span s =
-          symbols-read regions sweeping (i + span .start) (span .end - span .start) (omega arith)
+          symbols-read sweeping (i + span .start) (span .end - span .start) (omega arith)
           ∙ ap (take (span .end - span .start)) (sym (drop-drop (span .start) i (part from n w₀)))
           in
           let l = length-take (span .end - span .start) (drop (span .start) s) in
           let next : i + 1 + pred taken ≡ i + taken = omega arith in
           subst (λ j. Sweeping rule w₀ w′ from n to cap count₀ count′ j) next
-          (sweeping-more regions sweeping more (turnOf left s (Write span taken closed)) (turn-found ∙ ap (turnOf left s) e)
+          (sweeping-more sweeping more (turnOf left s (Write span taken closed)) (turn-found ∙ ap (turnOf left s) e)
           (subst (λ t. Appended w w′ to cap count count′ (left ++ t ++ ending closed)) kept-symbols a)
           (written-few left (spanned span s) closed taken short (omega arith) m))
 
     pub copied-here : {w′ : List ℕ} {count′ : ℕ} → r ≡ Copy → Appended w w′ to cap count count′ (getD w (from + i) 0 ∷ []) → Sweeping rule w₀ w′ from n to cap count₀ count′ (i + 1)
-    copied-here e a = sweeping-kept regions sweeping more (turn-found ∙ ap (turnOf left (drop i (part from n w₀))) e) a
+    copied-here e a = sweeping-kept sweeping more (turn-found ∙ ap (turnOf left (drop i (part from n w₀))) e) a

@@ -3,8 +3,8 @@
 mod rules;
 
 pub use rules::edit_at;
-use search::Found;
 use symbols::Span;
+use text::Due;
 use text::Progress;
 ghost use Prim.Native.Nat.{_+_, _-_, _≤_};
 ghost use mathlib.Core.List.{_++_};
@@ -88,8 +88,7 @@ pub fn rewrite(
     while i < n {
         let at = from + i;
         let Edit::Write(span, taken, closed) = edit_at(&work[at..end], kind, pattern) else {
-            let b = work[at];
-            count = text::put(work, to, text::CAP, count, b);
+            count = text::copy_one(work, at, to, text::CAP, count);
             i += 1;
             continue;
         };
@@ -114,14 +113,9 @@ pub fn convert(work: &mut [u8], text: Progress, kind: Kind, pattern: &[u8], left
     requires { ⌜ Fair (now pattern) (now left) ⌝ }
     ensures { λ r. ⌜ Staged (now (work .entry)) (now (work .exit)) text r (stage (sweep (ruleOf kind (now (pattern .entry)) (now (left .entry))) 0 0)) ⌝ }
 {
-    let Progress::Text(from, n) = text else {
+    let Due::Rewrite(from, n, to, _) = text::due_for(work, text, pattern) else {
         return text;
     };
-    let end = from + n;
-    let Found::At(_) = search::find(&work[from..end], pattern) else {
-        return text;
-    };
-    let to = text::CAP - from;
     let count = rewrite(work, from, n, to, kind, pattern, left);
     text::finished(to, count)
 }

@@ -4,3 +4,4 @@ pub mod Written
 pub mod Filling
 pub mod Sweep
 pub mod Stage
+pub mod Due

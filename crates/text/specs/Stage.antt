@@ -15,13 +15,7 @@ use lib.Dec.{ltb}
 use lib.ListN.{length, drop}
 use borrow.Author.Tests.{lt-ltb, le-ltb}
 use Rattle.spec.specs.Result.{Result, passed, refused, _then_, mostSymbols, grown, stage}
-use Rattle.spec.specs.Symbols.{find}
-use Rattle.spec.specs.Sweep.{Rule, sweep}
-use Rattle.spec.specs.Laws.Sweep.{Waits, sweep-absent}
-use Rattle.symbols.specs.Parts.{part, length-part, whole-part}
-use Rattle.search.specs.Search.{Finds, finds-nothing}
-use Rattle.search.specs.declared.Found.{Found}
-use Rattle.search.specs.declared.Found.the-variants.{Nothing}
+use Rattle.symbols.specs.Parts.{part, length-part}
 use Rattle.text.specs.Writer.{Regions}
 use Rattle.text.specs.Written.{Written, wrote-text, wrote-beyond}
 use Rattle.text.specs.declared.Refusal.{Refusal}
@@ -170,26 +164,6 @@ module _ {w : List ℕ} {p : Progress} {from n : ℕ} (ready : Ready w p) (e : p
         };
         beyond = a .beyond;
       }
-
-  -- a refusal, where the buffer has been written to in the other region only
-  pub staged-refusal :
-      {w′ : List ℕ} {count : ℕ} {t : List ℕ} (g : List ℕ → Result (List ℕ)) (k : Refusal) → Written w w′ (8192 - from) 8192 count t
-      → g (part from n w) ≡ refused (number k)
-      → Staged w w′ p (Refused k) g
-  staged-refusal g k written refuses =
-      record {
-        answered = record { answer = sym (ap (λ q. shown q w then g) e ∙ refuses); long = written .wrote .long; placed = tt };
-        beyond = wrote-beyond {k = 16384} (written .wrote) (⊎-elim (λ z. omega arith) (λ z. omega arith) (placed-text .0));
-      }
-
-  -- because its rule waits for a pattern that is nowhere in the text
-  pub staged-absent :
-      (f : List ℕ → List ℕ) {pattern : List ℕ} {rule : Rule} {r : Found} → Waits pattern rule → ((s : List ℕ) → f s ≡ sweep rule 0 0 s)
-      → Finds (part from (from + n - from) w) r (find pattern (part from (from + n - from) w)) → r ≡ Nothing
-      → Staged w w p (Text from n) (stage f)
-  staged-absent f {pattern} waits sweeps finds nothing =
-      let absent = ap (find pattern) (sym (whole-part from n w)) ∙ finds-nothing finds nothing in
-      staged-same f (sweeps (part from n w) ∙ sweep-absent waits (part from n w) 0 absent)
 
   -- ---- a stage that writes its text to the other region
   pub placed-regions : Regions w from n (8192 - from) 8192 0

@@ -3,13 +3,16 @@
 // A stage reads a text in one region of the work buffer and writes its own to the other.
 mod writer;
 
+use search::Found;
 pub use writer::clear;
 pub use writer::copy;
+pub use writer::copy_one;
 pub use writer::pop;
 pub use writer::put;
 pub use writer::put_all;
 ghost use mathlib.Core.Path.{_≡_};
-ghost use Rattle.text.specs.Stage.{judged, number as numbered};
+ghost use Rattle.text.specs.Stage.{Ready, judged, number as numbered};
+ghost use Rattle.text.specs.Due.{Awaited};
 
 // Number 2: the most bytes of a formula, and so of a plain text.
 pub const MOST_FORMULA: usize = 4_096;
@@ -63,4 +66,27 @@ pub fn finished(to: usize, count: usize) -> Progress
         return Progress::Refused(Refusal::Overgrown);
     }
     Progress::Text(to, count)
+}
+
+// What a stage that waits for a pattern has to do.
+pub enum Due {
+    // The text's place and length, the place to write to, and the pattern's first place in the text.
+    Rewrite(usize, usize, usize, usize),
+    // The text has been refused before, or the pattern is nowhere in it.
+    Nothing,
+}
+
+pub fn due_for(work: &[u8], text: Progress, pattern: &[u8]) -> Due
+    requires { ⌜ Ready (now work) text ⌝ }
+    ensures { λ r. ⌜ Awaited (now (work .entry)) text (now (pattern .entry)) r ⌝ }
+{
+    let Progress::Text(from, n) = text else {
+        return Due::Nothing;
+    };
+    let end = from + n;
+    let Found::At(i) = search::find(&work[from..end], pattern) else {
+        return Due::Nothing;
+    };
+    let to = CAP - from;
+    Due::Rewrite(from, n, to, i)
 }

@@ -2,8 +2,8 @@
 // region is the beginning of what was written, and dropping symbols from the end only lowers the count.
 ghost use mathlib.Core.Path.{_≡_};
 ghost use mathlib.Core.List.{[], _∷_};
-ghost use Prim.Native.Nat.{_+_, _-_, _≤_};
-ghost use lib.ListN.{length, replicate};
+ghost use Prim.Native.Nat.{_+_, _-_, _≤_, _<_};
+ghost use lib.ListN.{length, getD, replicate};
 ghost use Rattle.symbols.specs.Parts.{part};
 ghost use Rattle.text.specs.Writer.{Room, Appended, Apart};
 
@@ -30,6 +30,16 @@ pub fn put_all(work: &mut [u8], to: usize, cap: usize, count: usize, bytes: &[u8
     end
 }
 
+// Appends the byte at a place.
+pub fn copy_one(work: &mut [u8], at: usize, to: usize, cap: usize, count: usize) -> usize
+    requires { ⌜ Room (now work) to cap count 1 ⌝ }
+    requires { ⌜ at < length (now work) ⌝ }
+    ensures { λ r. ⌜ Appended (now (work .entry)) (now (work .exit)) to cap count r (getD (now (work .entry)) at 0 ∷ []) ⌝ }
+{
+    let b = work[at];
+    put(work, to, cap, count, b)
+}
+
 // Appends the `n` bytes at `from`, which lie apart from the region that is written.
 pub fn copy(work: &mut [u8], from: usize, n: usize, to: usize, cap: usize, count: usize) -> usize
     requires { ⌜ Room (now work) to cap count n ⌝ }
@@ -39,8 +49,7 @@ pub fn copy(work: &mut [u8], from: usize, n: usize, to: usize, cap: usize, count
 {
     let mut end = count;
     for i in 0..n {
-        let b = work[from + i];
-        end = put(work, to, cap, end, b);
+        end = copy_one(work, from + i, to, cap, end);
     }
     end
 }

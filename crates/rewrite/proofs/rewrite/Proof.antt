@@ -1,9 +1,8 @@
 -- `rewrite::rewrite` meets its contract. The loop's invariant is that of a sweep, at place i. Assumes nothing.
 use Rattle.rewrite.specs.Edits.{Fits, ruleOf}
 use Rattle.rewrite.specs.Turns.{edit-fits, edit-within, written-here, copied-here}
-use Rattle.text.specs.Writer.{appended-long}
-use Rattle.text.specs.Sweep.{Sweeping, rest, sweeping-none, sweeping-all, symbols-apart, turn-room}
-use lib.ListN.{length, length-take, length-drop}
+use Rattle.text.specs.Sweep.{Sweeping, rest, sweeping-none, sweeping-all, symbols-apart, turn-room, one-room}
+use lib.ListN.{length-take, length-drop}
 use mathlib.Core.Path.{_≡_, refl}
 use Prim.Native.Nat.{_+_, _-_, _≤_}
 use native.Mathlib.Omega.{arith}
@@ -12,109 +11,92 @@ use Rattle.rewrite.proofs.rewrite.Statement.{statement}
 use Rattle.rewrite.proofs.rewrite.Tie as tie
 
 abbrev Inv-loop : tie.InvT-loop
-Inv-loop work₀ from n to kind pattern left end count₀ i₀ work count i =
-    (end ≡ from + n) × (length work ≡ length work₀) × Sweeping (ruleOf kind pattern left) work₀ work from n to 8192 0 count i
+Inv-loop work₀ from n to kind pattern left end count₀ i₀ work count i = (end ≡ from + n) × Sweeping (ruleOf kind pattern left) work₀ work from n to 8192 0 count i
 
 abbrev μ-loop : tie.MeasureT-loop
 μ-loop work₀ from n to kind pattern left end count₀ i₀ work count i = n - i
 
-add-end : tie.Need-add-end Inv-loop μ-loop
-add-end c = omega arith
-
 loop-holds : tie.Need-loop-holds Inv-loop μ-loop
-loop-holds c = (refl, refl, sweeping-none _ _ _ _ _ _ _)
-
-add-at : tie.Need-add-at Inv-loop μ-loop
-add-at c = omega arith
-
-sub-edit-at : tie.Need-sub-edit-at Inv-loop μ-loop
-sub-edit-at c = omega arith
-
-part-edit-at-start : tie.Need-part-edit-at-start Inv-loop μ-loop
-part-edit-at-start c = omega arith
-
-part-edit-at-end : tie.Need-part-edit-at-end Inv-loop μ-loop
-part-edit-at-end c = omega arith
+loop-holds c = (refl, sweeping-none _ (c .before .before .before .pre .0))
 
 edit-at-requires : tie.Need-edit-at-requires Inv-loop μ-loop
 edit-at-requires c κs =
-    let s = c .before .before .before .before .before .before .before in
-    (simp (length-take, length-drop) (omega arith), s .pre .1 .some)
+    let at-start : tie.Start Inv-loop μ-loop = search in
+    (simp (length-take, length-drop) (omega arith), at-start .pre .1 .some)
 
-enum-known-span : tie.Need-enum-known-span Inv-loop μ-loop
-enum-known-span c = search needs
-
-enum-told : tie.Need-enum-told Inv-loop μ-loop
-enum-told c = search needs
-
-slice-read-b : tie.Need-slice-read-b Inv-loop μ-loop
-slice-read-b c = omega arith
-
-put-requires : tie.Need-put-requires Inv-loop μ-loop
-put-requires c κs =
-    let l = c .before .before .before .before .before .before .before .before in
-    turn-room (l .before .before .before .before .pre .0) (l .loop .inv .2) (omega arith) 1 (omega arith)
-
-add-i : tie.Need-add-i Inv-loop μ-loop
-add-i c = omega arith
-
-loop-less : tie.Need-loop-less Inv-loop μ-loop
-loop-less c = omega arith
+copy-one-requires : tie.Need-copy-one-requires Inv-loop μ-loop
+copy-one-requires c κs =
+    let at-loop : tie.At-loop Inv-loop μ-loop = search in
+    one-room (at-loop .loop .inv .1) (omega arith)
 
 loop-again : tie.Need-loop-again Inv-loop μ-loop
 loop-again c =
-    let l = c .before .before .before .before .before .before .before .before .before .before .before in
-    let s = l .before .before .before .before in
-    (refl, omega arith, copied-here (s .pre .0) (l .loop .inv .2) (omega arith) (c .before .before .before .before .before .before .before .edit-at .ensures (s .args .left .now)) (c .before .before .before .before .before .enum-told .given .1) (c .before .before .put .ensures))
+    let at-enum-told : tie.After-enum-told Inv-loop μ-loop = search in
+    let at-edit-at : tie.After-edit-at Inv-loop μ-loop = search in
+    let at-loop : tie.At-loop Inv-loop μ-loop = search in
+    let at-start : tie.Start Inv-loop μ-loop = search in
+    (refl, copied-here (at-loop .loop .inv .1) (omega arith) (at-edit-at .edit-at .ensures (at-start .args .left .now)) (at-enum-told .enum-told .given .1) (c .before .before .copy-one .ensures))
 
 -- the symbols that an edit takes and keeps
 fits :
-    (c : tie.After-known-told Inv-loop μ-loop)
-    → (let l = c .before .before .before .before .before .before .before in let a = l .before .before .before .before .args in Fits (rest (a .from) (a .n) (l .loop .i) (l .loop .work)) (c .before .span .given .0 .0) (c .before .span .given .0 .1 .0))
-fits c = let l = c .before .before .before .before .before .before .before in let s = l .before .before .before .before in edit-fits (s .pre .0) (l .loop .inv .2) (omega arith) (c .before .before .before .edit-at .ensures (s .args .left .now)) (c .before .span .given .1)
-
-within : (c : tie.After-known-told Inv-loop μ-loop) → (let l = c .before .before .before .before .before .before .before in l .loop .i + c .before .span .given .0 .1 .0 ≤ l .before .before .before .before .args .n)
-within c = let l = c .before .before .before .before .before .before .before in let s = l .before .before .before .before in edit-within (s .pre .0) (l .loop .inv .2) (omega arith) (c .before .before .before .edit-at .ensures (s .args .left .now)) (c .before .span .given .1)
+    (c : tie.After-span Inv-loop μ-loop)
+    → (let at-loop : tie.At-loop Inv-loop μ-loop = search in let at-start : tie.Start Inv-loop μ-loop = search in
+    let taken = c .span .given .0 .1 .0 in
+    Fits (rest (at-start .args .from) (at-start .args .n) (at-loop .loop .i) (at-loop .loop .work)) (c .span .given .0 .0) taken × (at-loop .loop .i + taken ≤ at-start .args .n))
+fits c =
+    let at-loop : tie.At-loop Inv-loop μ-loop = search in
+    let at-start : tie.Start Inv-loop μ-loop = search in
+    let edited = c .before .before .edit-at .ensures (at-start .args .left .now) in
+    (edit-fits (at-loop .loop .inv .1) (omega arith) edited (c .span .given .1), edit-within (at-loop .loop .inv .1) (omega arith) edited (c .span .given .1))
 
 add-inside : tie.Need-add-inside Inv-loop μ-loop
-add-inside c = let f = fits (c .before) in let w = within (c .before) in omega arith
+add-inside c = let f = fits (c .before .before) in omega arith
 
 add-put-edit : tie.Need-add-put-edit Inv-loop μ-loop
-add-put-edit c = let f = fits (c .before .before) in let w = within (c .before .before) in omega arith
+add-put-edit c = let f = fits (c .before .before .before) in omega arith
 
 sub-put-edit : tie.Need-sub-put-edit Inv-loop μ-loop
-sub-put-edit c = let f = fits (c .before .before .before) in let w = within (c .before .before .before) in omega arith
+sub-put-edit c =
+    let at-span : tie.After-span Inv-loop μ-loop = search in
+    let f = fits at-span in omega arith
 
 put-edit-requires : tie.Need-put-edit-requires Inv-loop μ-loop
 put-edit-requires c κs =
-    let l = c .before .before .before .before .before .before .before .before .before .before in
-    let s = l .before .before .before .before in
-    let f = fits (c .before .before .before) in
-    let w = within (c .before .before .before) in
-    let p = s .pre .1 .short in
-    let span = c .before .before .before .before .span .given .0 .0 in (
-      turn-room (s .pre .0) (l .loop .inv .2) (omega arith) _ (omega arith),
-      (omega arith, symbols-apart (s .pre .0) (l .loop .inv .2) (l .loop .i + span .start) (span .end - span .start) (omega arith)),
+    let at-span : tie.After-span Inv-loop μ-loop = search in
+    let at-loop : tie.At-loop Inv-loop μ-loop = search in
+    let at-start : tie.Start Inv-loop μ-loop = search in
+    let sweeping = at-loop .loop .inv .1 in
+    let f = fits at-span in
+    let p = at-start .pre .1 .short in
+    let span = at-span .span .given .0 .0 in (
+      turn-room sweeping (omega arith) _ (omega arith),
+      (omega arith, symbols-apart sweeping (at-loop .loop .i + span .start) (span .end - span .start) (omega arith)),
     )
 
 add-i-2 : tie.Need-add-i-2 Inv-loop μ-loop
-add-i-2 c = let f = fits (c .before .before .before .before .before .before) in let w = within (c .before .before .before .before .before .before) in omega arith
+add-i-2 c =
+    let at-span : tie.After-span Inv-loop μ-loop = search in
+    let f = fits at-span in omega arith
 
 loop-less-2 : tie.Need-loop-less-2 Inv-loop μ-loop
-loop-less-2 c = let f = fits (c .before .before .before .before .before .before) in let w = within (c .before .before .before .before .before .before) in omega arith
+loop-less-2 c =
+    let at-span : tie.After-span Inv-loop μ-loop = search in
+    let f = fits at-span in omega arith
 
 loop-again-2 : tie.Need-loop-again-2 Inv-loop μ-loop
 loop-again-2 c =
-    let k = c .before .before .before .before .before .before in
-    let l = k .before .before .before .before .before .before .before in
-    let s = l .before .before .before .before in
-    (refl, omega (arith, appended-long (c .before .before .put-edit .ensures)), written-here (s .pre .0) (l .loop .inv .2) (k .before .before .before .before .before .before .loop-test .taken) (k .before .before .before .edit-at .ensures (s .args .left .now)) (k .before .span .given .1) (s .pre .1 .short) (c .before .before .put-edit .ensures))
+    let at-span : tie.After-span Inv-loop μ-loop = search in
+    let at-edit-at : tie.After-edit-at Inv-loop μ-loop = search in
+    let in-loop : tie.In-loop Inv-loop μ-loop = search in
+    let at-loop : tie.At-loop Inv-loop μ-loop = search in
+    let at-start : tie.Start Inv-loop μ-loop = search in
+    (refl, written-here (at-loop .loop .inv .1) (in-loop .loop-test .taken) (at-edit-at .edit-at .ensures (at-start .args .left .now)) (at-span .span .given .1) (at-start .pre .1 .short) (c .before .before .put-edit .ensures))
 
 same-length : tie.Need-same-length Inv-loop μ-loop
-same-length c = c .before .loop .inv .1
+same-length c = c .before .loop .inv .1 .long
 
 returns : tie.Need-returns Inv-loop μ-loop
-returns c = sweeping-all (c .before .before .before .before .before .pre .0) (c .before .loop .inv .2) (omega arith)
+returns c = sweeping-all (c .before .loop .inv .1) (omega arith)
 
 pub rewrite-spec : {M : Type 1} → statement M
 rewrite-spec =
@@ -122,19 +104,18 @@ rewrite-spec =
     (tie.spec
     Inv-loop
     μ-loop
-    add-end
+    (λ c. omega arith)
     loop-holds
-    add-at
-    sub-edit-at
-    part-edit-at-start
-    part-edit-at-end
+    (λ c. omega arith)
+    (λ c. omega arith)
+    (λ c. omega arith)
+    (λ c. omega arith)
     edit-at-requires
-    enum-known-span
-    enum-told
-    slice-read-b
-    put-requires
-    add-i
-    loop-less
+    (λ c. search needs)
+    (λ c. search needs)
+    copy-one-requires
+    (λ c. omega arith)
+    (λ c. omega arith)
     loop-again
     add-inside
     add-put-edit

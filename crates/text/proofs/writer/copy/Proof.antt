@@ -21,33 +21,21 @@ loop-holds c =
     let at = c .before in
     (omega arith, length-part (at .args .from) (at .args .n) (at .args .work .now) (omega arith), refl, appended-none _ _ _ _)
 
-add-b : tie.Need-add-b Inv-loop μ-loop
-add-b c = omega arith
-
-slice-read-b : tie.Need-slice-read-b Inv-loop μ-loop
-slice-read-b c = omega arith
-
-put-requires : tie.Need-put-requires Inv-loop μ-loop
-put-requires c κs =
-    let l = c .before .before .before in
-    let s = l .before .before in
-    next-room _ (l .loop .i) (l .loop .inv .3) (omega arith) (rw (l .loop .inv .1) (s .pre .0))
-
-add-i : tie.Need-add-i Inv-loop μ-loop
-add-i c = omega arith
-
-loop-less : tie.Need-loop-less Inv-loop μ-loop
-loop-less c = omega arith
+copy-one-requires : tie.Need-copy-one-requires Inv-loop μ-loop
+copy-one-requires c κs =
+    let at-loop : tie.At-loop Inv-loop μ-loop = search in
+    let at-start : tie.Start Inv-loop μ-loop = search in
+    (next-room _ (at-loop .loop .i) (at-loop .loop .inv .3) (omega arith) (rw (at-loop .loop .inv .1) (at-start .pre .0)), omega arith)
 
 loop-again : tie.Need-loop-again Inv-loop μ-loop
 loop-again c =
-    let l = c .before .before .before .before .before .before in
-    let s = l .before .before in
-    let put = c .before .before .put in
-    let kept = appended-part (l .loop .inv .3) (s .args .from) (s .args .n) (s .pre .1 .1) in
-    let b = sym (getD-part (s .args .from) (s .args .n) (l .loop .work) (l .loop .i) (omega arith)) ∙ ap (λ p. getD p (l .loop .i) 0) kept in
-    let a = next-appended _ (l .loop .i) (l .loop .inv .3) (omega arith) (rw b at (put .ensures)) in
-    (omega arith, l .loop .inv .1, appended-long a, a)
+    let at-copy-one : tie.After-copy-one Inv-loop μ-loop = search in
+    let at-loop : tie.At-loop Inv-loop μ-loop = search in
+    let at-start : tie.Start Inv-loop μ-loop = search in
+    let kept = appended-part (at-loop .loop .inv .3) (at-start .args .from) (at-start .args .n) (at-start .pre .1 .1) in
+    let b = sym (getD-part (at-start .args .from) (at-start .args .n) (at-loop .loop .work) (at-loop .loop .i) (omega arith)) ∙ ap (λ p. getD p (at-loop .loop .i) 0) kept in
+    let a = next-appended _ (at-loop .loop .i) (at-loop .loop .inv .3) (omega arith) (rw b at (at-copy-one .copy-one .ensures)) in
+    (omega arith, at-loop .loop .inv .1, appended-long a, a)
 
 same-length : tie.Need-same-length Inv-loop μ-loop
 same-length c = c .before .loop .inv .2
@@ -61,4 +49,4 @@ returns c =
     rw (← take-all (l .loop .i) copied all) (l .loop .inv .3)
 
 pub copy-spec : {M : Type 1} → statement M
-copy-spec = tie.close (tie.spec Inv-loop μ-loop loop-holds add-b slice-read-b put-requires add-i loop-less loop-again same-length returns)
+copy-spec = tie.close (tie.spec Inv-loop μ-loop loop-holds (λ c. omega arith) copy-one-requires (λ c. omega arith) (λ c. omega arith) loop-again same-length returns)
