@@ -18,31 +18,26 @@ loop-holds c = (omega arith, turning-none (c .before .pre))
 attach-once-requires : tie.Need-attach-once-requires Inv-loop μ-loop
 attach-once-requires c κs = c .before .before .loop .inv .1 .half
 
-enum-known-to : tie.Need-enum-known-to Inv-loop μ-loop
-enum-known-to c = search needs
-
-enum-told : tie.Need-enum-told Inv-loop μ-loop
-enum-told c = search needs
-
 same-length : tie.Need-same-length Inv-loop μ-loop
 same-length c =
-    let turned = c .before .before .before .before .attach-once .ensures .long in
-    let l = c .before .before .before .before .before .before .before .loop .inv .1 .long in
+    let at-attach-once : tie.After-attach-once Inv-loop μ-loop = search in
+    let at-loop : tie.At-loop Inv-loop μ-loop = search in
+    let turned = at-attach-once .attach-once .ensures .long in
+    let l = at-loop .loop .inv .1 .long in
     omega arith
 
 returns : tie.Need-returns Inv-loop μ-loop
 returns c =
-    let l = c .before .before .before .before .before .before .before in
-    turning-done (l .loop .inv .1) (l .before .before .pre) (c .before .before .before .before .attach-once .ensures) (c .enum-told .given .1)
-
-add-k : tie.Need-add-k Inv-loop μ-loop
-add-k c = omega arith
-
-loop-less : tie.Need-loop-less Inv-loop μ-loop
-loop-less c = omega arith
+    let at-attach-once : tie.After-attach-once Inv-loop μ-loop = search in
+    let at-loop : tie.At-loop Inv-loop μ-loop = search in
+    let at-start : tie.Start Inv-loop μ-loop = search in
+    turning-done (at-loop .loop .inv .1) (at-start .pre) (at-attach-once .attach-once .ensures) (c .enum-told .given .1)
 
 loop-again : tie.Need-loop-again Inv-loop μ-loop
-loop-again c = (omega arith, turning-more (c .before .before .before .before .before .before .before .before .loop .inv .1) (omega arith) (c .before .before .before .before .before .attach-once .ensures) (c .before .to .given .1))
+loop-again c =
+    let at-attach-once : tie.After-attach-once Inv-loop μ-loop = search in
+    let at-loop : tie.At-loop Inv-loop μ-loop = search in
+    (omega arith, turning-more (at-loop .loop .inv .1) (omega arith) (at-attach-once .attach-once .ensures) (c .before .to .given .1))
 
 same-length-2 : tie.Need-same-length-2 Inv-loop μ-loop
 same-length-2 c = c .before .loop .inv .1 .long
@@ -58,12 +53,12 @@ attach-all-spec =
     μ-loop
     loop-holds
     attach-once-requires
-    enum-known-to
-    enum-told
+    (λ c. search needs)
+    (λ c. search needs)
     same-length
     returns
-    add-k
-    loop-less
+    (λ c. omega arith)
+    (λ c. omega arith)
     loop-again
     same-length-2
     returns-2)

@@ -7,59 +7,31 @@ use borrow.Author.Needs.{needs}
 use Rattle.attach.proofs.attach_once.Statement.{statement}
 use Rattle.attach.proofs.attach_once.Tie as tie
 
--- ---- places on the way: where the function begins, where the name is
-abbrev start : tie.After-find → tie.Start
-start c = let lent = c .before .before .before in lent .before .before
-
-abbrev name-of : tie.After-call-at → tie.After-known-told
-name-of c = let lent = c .before .before .before in lent .before
-
 add-end : tie.Need-add-end
 add-end c = let h = halved-regions (c .before .pre) in omega arith
-
-sub-find : tie.Need-sub-find
-sub-find c = search needs
-
-part-find-start : tie.Need-part-find-start
-part-find-start c = search needs
 
 part-find-end : tie.Need-part-find-end
 part-find-end c = let h = halved-regions (c .before .before .pre) in omega arith
 
-slice-aggregate-find : tie.Need-slice-aggregate-find
-slice-aggregate-find c = search needs
-
-find-requires : tie.Need-find-requires
-find-requires c κs = search needs
-
-enum-known-i : tie.Need-enum-known-i
-enum-known-i c = search needs
-
-enum-told : tie.Need-enum-told
-enum-told c = search needs
-
-same-length : tie.Need-same-length
-same-length c = search needs
-
 returns : tie.Need-returns
 returns c =
+    let at-start : tie.Start = search in
     let sought = c .before .before in
-    let s = start sought in
-    turned-absent (s .pre) (sought .find .ensures) (c .enum-told .given .1)
+    turned-absent (at-start .pre) (sought .find .ensures) (c .enum-told .given .1)
 
 -- the name stands in the text
 named :
     (c : tie.After-known-told)
-    → (let s = start (c .before .before .before) in c .before .i .given .0 .0 < s .args .n)
+    → (let at-start : tie.Start = search in c .before .i .given .0 .0 < at-start .args .n)
 named c =
+    let at-start : tie.Start = search in
     let sought = c .before .before .before in
-    let s = start sought in
-    name-here (s .pre) (sought .find .ensures) (c .before .i .given .1)
+    name-here (at-start .pre) (sought .find .ensures) (c .before .i .given .1)
 
 add-open : tie.Need-add-open
 add-open c =
-    let s = start (c .before .before .before) in
-    let h = halved-regions (s .pre) in let f = named c in omega arith
+    let at-start : tie.Start = search in
+    let h = halved-regions (at-start .pre) in let f = named c in omega arith
 
 sub-call-at : tie.Need-sub-call-at
 sub-call-at c = let f = named c in omega arith
@@ -69,164 +41,122 @@ part-call-at-start c = let f = named (c .before) in omega arith
 
 part-call-at-end : tie.Need-part-call-at-end
 part-call-at-end c =
-    let found = c .before in
-    let s = start (found .before .before .before) in
-    let h = halved-regions (s .pre) in omega arith
-
-slice-aggregate-call-at : tie.Need-slice-aggregate-call-at
-slice-aggregate-call-at c = search needs
+    let at-start : tie.Start = search in
+    let h = halved-regions (at-start .pre) in omega arith
 
 call-at-requires : tie.Need-call-at-requires
 call-at-requires c κs =
-    let lent = c .before .before in
-    let found = lent .before in
-    let s = start (found .before .before .before) in
-    let h = halved-regions (s .pre) in simp (length-take, length-drop) (omega arith)
-
-enum-known-k : tie.Need-enum-known-k
-enum-known-k c = search needs
-
-enum-told-2 : tie.Need-enum-told-2
-enum-told-2 c = search needs
-
-same-length-2 : tie.Need-same-length-2
-same-length-2 c = search needs
+    let at-start : tie.Start = search in
+    let h = halved-regions (at-start .pre) in simp (length-take, length-drop) (omega arith)
 
 returns-2 : tie.Need-returns-2
 returns-2 c =
+    let at-i : tie.After-i = search in
+    let at-find : tie.After-find = search in
+    let at-start : tie.Start = search in
     let called = c .before .before in
-    let found = name-of called in
-    let sought = found .before .before .before in
-    let s = start sought in
-    turned-unclosed (s .pre) (sought .find .ensures) (found .before .i .given .1) (called .call-at .ensures) (c .enum-told2 .given .1)
+    turned-unclosed (at-start .pre) (at-find .find .ensures) (at-i .i .given .1) (called .call-at .ensures) (c .enum-told2 .given .1)
 
 -- and its call with it
 fits :
     (c : tie.After-known-told2)
-    → (let found = name-of (c .before .before .before) in
-    let s = start (found .before .before .before) in
-    found .before .i .given .0 .0 + 7 + c .before .k .given .0 .0 + 1 ≤ s .args .n)
+    → (let at-i : tie.After-i = search in let at-start : tie.Start = search in at-i .i .given .0 .0 + 7 + c .before .k .given .0 .0 + 1 ≤ at-start .args .n)
 fits c =
+    let at-i : tie.After-i = search in
+    let at-find : tie.After-find = search in
+    let at-start : tie.Start = search in
     let called = c .before .before .before in
-    let found = name-of called in
-    let sought = found .before .before .before in
-    let s = start sought in
-    call-here (s .pre) (sought .find .ensures) (found .before .i .given .1) (called .call-at .ensures) (c .before .k .given .1)
-
-sub-attachment-of : tie.Need-sub-attachment-of
-sub-attachment-of c = omega arith
-
-part-attachment-of-start : tie.Need-part-attachment-of-start
-part-attachment-of-start c = omega arith
+    call-here (at-start .pre) (at-find .find .ensures) (at-i .i .given .1) (called .call-at .ensures) (c .before .k .given .1)
 
 part-attachment-of-end : tie.Need-part-attachment-of-end
 part-attachment-of-end c =
-    let known = c .before in
-    let found = name-of (known .before .before .before) in
-    let s = start (found .before .before .before) in
-    let h = halved-regions (s .pre) in omega arith
+    let at-start : tie.Start = search in
+    let h = halved-regions (at-start .pre) in omega arith
 
 add-attachment-of : tie.Need-add-attachment-of
 add-attachment-of c =
+    let at-start : tie.Start = search in
     let known = c .before .before in
-    let found = name-of (known .before .before .before) in
-    let s = start (found .before .before .before) in
-    let h = halved-regions (s .pre) in let f = fits known in omega arith
+    let h = halved-regions (at-start .pre) in let f = fits known in omega arith
 
 attachment-of-requires : tie.Need-attachment-of-requires
 attachment-of-requires c κs =
+    let at-start : tie.Start = search in
     let known = c .before .before in
-    let found = name-of (known .before .before .before) in
-    let s = start (found .before .before .before) in
-    let h = halved-regions (s .pre) in let f = fits known in simp (length-take, length-drop) (omega arith)
-
-enum-known-base : tie.Need-enum-known-base
-enum-known-base c = search needs
-
-enum-told-3 : tie.Need-enum-told-3
-enum-told-3 c = search needs
-
-same-length-3 : tie.Need-same-length-3
-same-length-3 c = search needs
+    let h = halved-regions (at-start .pre) in let f = fits known in simp (length-take, length-drop) (omega arith)
 
 returns-3 : tie.Need-returns-3
 returns-3 c =
+    let at-k : tie.After-k = search in
+    let at-call-at : tie.After-call-at = search in
+    let at-i : tie.After-i = search in
+    let at-find : tie.After-find = search in
+    let at-start : tie.Start = search in
     let argued = c .before .before in
-    let known = argued .before .before .before in
-    let called = known .before .before .before in
-    let found = name-of called in
-    let sought = found .before .before .before in
-    let s = start sought in
-    turned-not (s .pre) (sought .find .ensures) (found .before .i .given .1) (called .call-at .ensures) (known .before .k .given .1) (argued .attachment-of .ensures) (c .enum-told3 .given .1)
-
-other-half-requires : tie.Need-other-half-requires
-other-half-requires c κs = search needs
+    turned-not (at-start .pre) (at-find .find .ensures) (at-i .i .given .1) (at-call-at .call-at .ensures) (at-k .k .given .1) (argued .attachment-of .ensures) (c .enum-told3 .given .1)
 
 rewrite-attach-requires : tie.Need-rewrite-attach-requires
 rewrite-attach-requires c κs =
+    let at-attachment-of : tie.After-attachment-of = search in
+    let at-k : tie.After-k = search in
+    let at-call-at : tie.After-call-at = search in
+    let at-i : tie.After-i = search in
+    let at-find : tie.After-find = search in
+    let at-start : tie.Start = search in
     let half = c .before in
-    let both = half .before in
-    let argued = both .before .before .before in
-    let known = argued .before .before .before in
-    let called = known .before .before .before in
-    let found = name-of called in
-    let sought = found .before .before .before in
-    let s = start sought in (
-      rw (half .other-half .ensures) (halved-regions (s .pre)),
-      arguments-here (s .pre) (sought .find .ensures) (found .before .i .given .1) (called .call-at .ensures) (known .before .k .given .1) (argued .attachment-of .ensures) (both .before .base .given .1),
+    let both = half .before in (
+      rw (half .other-half .ensures) (halved-regions (at-start .pre)),
+      arguments-here (at-start .pre) (at-find .find .ensures) (at-i .i .given .1) (at-call-at .call-at .ensures) (at-k .k .given .1) (at-attachment-of .attachment-of .ensures) (both .before .base .given .1),
     )
-
-same-length-4 : tie.Need-same-length-4
-same-length-4 c = search needs
 
 returns-4 : tie.Need-returns-4
 returns-4 c =
+    let at-other-half : tie.After-other-half = search in
+    let at-base : tie.After-base = search in
+    let at-attachment-of : tie.After-attachment-of = search in
+    let at-k : tie.After-k = search in
+    let at-call-at : tie.After-call-at = search in
+    let at-i : tie.After-i = search in
+    let at-find : tie.After-find = search in
+    let at-start : tie.Start = search in
     let written = c .before .before in
-    let half = written .before .before in
-    let both = half .before in
-    let argued = both .before .before .before in
-    let known = argued .before .before .before in
-    let called = known .before .before .before in
-    let found = name-of called in
-    let sought = found .before .before .before in
-    let s = start sought in
-    let o = half .other-half .ensures in
-    rw o (turned-to (s .pre) (sought .find .ensures) (found .before .i .given .1) (called .call-at .ensures) (known .before .k .given .1) (argued .attachment-of .ensures) (both .before .base .given .1) (rw o at (written .rewrite-attach .ensures)))
+    let o = at-other-half .other-half .ensures in
+    rw o (turned-to (at-start .pre) (at-find .find .ensures) (at-i .i .given .1) (at-call-at .call-at .ensures) (at-k .k .given .1) (at-attachment-of .attachment-of .ensures) (at-base .base .given .1) (rw o at (written .rewrite-attach .ensures)))
 
 pub attach-once-spec : {M : Type 1} → statement M
 attach-once-spec =
     tie.close
     (tie.spec
     add-end
-    sub-find
-    part-find-start
+    (λ c. search needs)
+    (λ c. search needs)
     part-find-end
-    slice-aggregate-find
-    find-requires
-    enum-known-i
-    enum-told
-    same-length
+    (λ c. search needs)
+    (λ c κs. search needs)
+    (λ c. search needs)
+    (λ c. search needs)
+    (λ c. search needs)
     returns
     add-open
     sub-call-at
     part-call-at-start
     part-call-at-end
-    slice-aggregate-call-at
+    (λ c. search needs)
     call-at-requires
-    enum-known-k
-    enum-told-2
-    same-length-2
+    (λ c. search needs)
+    (λ c. search needs)
+    (λ c. search needs)
     returns-2
-    sub-attachment-of
-    part-attachment-of-start
+    (λ c. omega arith)
+    (λ c. omega arith)
     part-attachment-of-end
     add-attachment-of
     attachment-of-requires
-    enum-known-base
-    enum-told-3
-    same-length-3
+    (λ c. search needs)
+    (λ c. search needs)
+    (λ c. search needs)
     returns-3
-    other-half-requires
+    (λ c κs. search needs)
     rewrite-attach-requires
-    same-length-4
+    (λ c. search needs)
     returns-4)

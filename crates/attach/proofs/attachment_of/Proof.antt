@@ -6,43 +6,20 @@ use borrow.Author.Needs.{needs}
 use Rattle.attach.proofs.attachment_of.Statement.{statement}
 use Rattle.attach.proofs.attachment_of.Tie as tie
 
-add-end : tie.Need-add-end
-add-end c = search needs
-
-sub-find-unescaped-comma : tie.Need-sub-find-unescaped-comma
-sub-find-unescaped-comma c = search needs
-
-part-find-unescaped-comma-start : tie.Need-part-find-unescaped-comma-start
-part-find-unescaped-comma-start c = search needs
-
-part-find-unescaped-comma-end : tie.Need-part-find-unescaped-comma-end
-part-find-unescaped-comma-end c = search needs
-
-find-unescaped-comma-requires : tie.Need-find-unescaped-comma-requires
-find-unescaped-comma-requires c κs = search needs
-
-enum-known-j : tie.Need-enum-known-j
-enum-known-j c = search needs
-
-enum-told : tie.Need-enum-told
-enum-told c = search needs
-
 returns : tie.Need-returns
 returns c =
+    let at-start : tie.Start = search in
     let sought = c .before .before in
-    let s = sought .before .before .before in
-    attached-no-comma (s .args .s .now) (s .args .start) (s .args .k) (s .pre) (sought .find-unescaped-comma .ensures) (c .enum-told .given .1)
+    attached-no-comma (at-start .args .s .now) (at-start .args .start) (at-start .args .k) (at-start .pre) (sought .find-unescaped-comma .ensures) (c .enum-told .given .1)
 
 -- the comma stands in the call
 comma :
     (c : tie.After-known-told)
-    → (let sought = c .before .before .before in
-    let s = sought .before .before .before in
-    c .before .j .given .0 .0 < s .args .k)
+    → (let at-start : tie.Start = search in c .before .j .given .0 .0 < at-start .args .k)
 comma c =
+    let at-start : tie.Start = search in
     let sought = c .before .before .before in
-    let s = sought .before .before .before in
-    comma-fits (s .args .s .now) (s .args .start) (s .args .k) (s .pre) (sought .find-unescaped-comma .ensures) (c .before .j .given .1)
+    comma-fits (at-start .args .s .now) (at-start .args .start) (at-start .args .k) (at-start .pre) (sought .find-unescaped-comma .ensures) (c .before .j .given .1)
 
 add-comma : tie.Need-add-comma
 add-comma c = let j = comma c in omega arith
@@ -58,31 +35,31 @@ subscript-of-requires c κs = let j = comma (c .before) in record { order = omeg
 
 returns-2 : tie.Need-returns-2
 returns-2 c =
+    let at-j : tie.After-j = search in
+    let at-find-unescaped-comma : tie.After-find-unescaped-comma = search in
+    let at-start : tie.Start = search in
     let below = c .before .before in
-    let known = below .before .before in
-    let sought = known .before .before .before in
-    let s = sought .before .before .before in
-    attached-empty (s .args .s .now) (s .args .start) (s .args .k) (s .pre) (sought .find-unescaped-comma .ensures) (known .before .j .given .1) (below .before .trim .ensures) (below .subscript-of .ensures) (c .if1 .taken)
+    attached-empty (at-start .args .s .now) (at-start .args .start) (at-start .args .k) (at-start .pre) (at-find-unescaped-comma .find-unescaped-comma .ensures) (at-j .j .given .1) (below .before .trim .ensures) (below .subscript-of .ensures) (c .if1 .taken)
 
 returns-3 : tie.Need-returns-3
 returns-3 c =
+    let at-j : tie.After-j = search in
+    let at-find-unescaped-comma : tie.After-find-unescaped-comma = search in
+    let at-start : tie.Start = search in
     let below = c .before .before in
-    let known = below .before .before in
-    let sought = known .before .before .before in
-    let s = sought .before .before .before in
-    attached-at (s .args .s .now) (s .args .start) (s .args .k) (s .pre) (sought .find-unescaped-comma .ensures) (known .before .j .given .1) (below .before .trim .ensures) (below .subscript-of .ensures) (c .if1 .left)
+    attached-at (at-start .args .s .now) (at-start .args .start) (at-start .args .k) (at-start .pre) (at-find-unescaped-comma .find-unescaped-comma .ensures) (at-j .j .given .1) (below .before .trim .ensures) (below .subscript-of .ensures) (c .if1 .left)
 
 pub attachment-of-spec : {M : Type 1} → statement M
 attachment-of-spec =
     tie.close
     (tie.spec
-    add-end
-    sub-find-unescaped-comma
-    part-find-unescaped-comma-start
-    part-find-unescaped-comma-end
-    find-unescaped-comma-requires
-    enum-known-j
-    enum-told
+    (λ c. search needs)
+    (λ c. search needs)
+    (λ c. search needs)
+    (λ c. search needs)
+    (λ c κs. search needs)
+    (λ c. search needs)
+    (λ c. search needs)
     returns
     add-comma
     trim-requires

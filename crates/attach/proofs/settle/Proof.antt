@@ -6,9 +6,6 @@ use borrow.Author.Needs.{needs}
 use Rattle.attach.proofs.settle.Statement.{statement}
 use Rattle.attach.proofs.settle.Tie as tie
 
-finished-requires : tie.Need-finished-requires
-finished-requires c κs = search needs
-
 returns : tie.Need-returns
 returns c = settled-low (c .before .before .before .pre) (c .before .if1 .taken) (c .finished .ensures)
 
@@ -20,22 +17,18 @@ copy-requires c κs =
     let high = c .before .if1 .left in
     (record { region = omega arith; small = omega arith }, (omega arith, inr (omega arith)))
 
-finished-requires-2 : tie.Need-finished-requires-2
-finished-requires-2 c κs = search needs
-
-same-length : tie.Need-same-length
-same-length c = search needs
-
 returns-2 : tie.Need-returns-2
-returns-2 c = settled-high (c .before .before .before .before .before .before .before .pre) (c .before .before .before .copy .ensures) (c .finished2 .ensures)
+returns-2 c =
+    let at-start : tie.Start = search in
+    settled-high (at-start .pre) (c .before .before .before .copy .ensures) (c .finished2 .ensures)
 
 pub settle-spec : {M : Type 1} → statement M
 settle-spec =
     tie.close
     (tie.spec
-    finished-requires
+    (λ c κs. search needs)
     returns
     copy-requires
-    finished-requires-2
-    same-length
+    (λ c κs. search needs)
+    (λ c. search needs)
     returns-2)

@@ -5,49 +5,38 @@ use borrow.Author.Needs.{needs}
 use Rattle.cases.proofs.put_branch.Statement.{statement}
 use Rattle.cases.proofs.put_branch.Tie as tie
 
-slice-aggregate-put-all : tie.Need-slice-aggregate-put-all
-slice-aggregate-put-all c = search needs
-
-put-all-requires : tie.Need-put-all-requires
-put-all-requires c κs = search needs
-
 copy-requires : tie.Need-copy-requires
 copy-requires c κs =
-    let s = c .before .before .before .before .before .before .before .before in
+    let at-start : tie.Start = search in
     let a = c .before .before .before .put-all .ensures in
     let l = appended-long a in
     let n = a .counted in
-    let room = s .pre .0 in
-    (record { region = omega arith; small = omega arith }, (omega arith, s .pre .1 .1))
-
-same-length : tie.Need-same-length
-same-length c = search needs
+    let room = at-start .pre .0 in
+    (record { region = omega arith; small = omega arith }, (omega arith, at-start .pre .1 .1))
 
 returns : tie.Need-returns
 returns c =
-    let s = c .before .before .before .before .before .before .before .before .before .before .before in
-    let a = c .before .before .before .before .before .before .put-all .ensures in
-    let same = appended-part a (s .args .from) (s .args .k) (s .pre .1 .1) in
-    rw (c .before .before .before .before .before .before .before .before .before .if1 .taken) (appended-more a (rw same at (c .before .before .copy .ensures)))
-
-copy-requires-2 : tie.Need-copy-requires-2
-copy-requires-2 c κs = search needs
-
-same-length-2 : tie.Need-same-length-2
-same-length-2 c = search needs
+    let at-put-all : tie.After-put-all = search in
+    let then1 : tie.Then1 = search in
+    let at-start : tie.Start = search in
+    let a = at-put-all .put-all .ensures in
+    let same = appended-part a (at-start .args .from) (at-start .args .k) (at-start .pre .1 .1) in
+    rw (then1 .if1 .taken) (appended-more a (rw same at (c .before .before .copy .ensures)))
 
 returns-2 : tie.Need-returns-2
-returns-2 c = rw (c .before .before .before .before .if1 .left) (c .before .before .copy2 .ensures)
+returns-2 c =
+    let else1 : tie.Else1 = search in
+    rw (else1 .if1 .left) (c .before .before .copy2 .ensures)
 
 pub put-branch-spec : {M : Type 1} → statement M
 put-branch-spec =
     tie.close
     (tie.spec
-    slice-aggregate-put-all
-    put-all-requires
+    (λ c. search needs)
+    (λ c κs. search needs)
     copy-requires
-    same-length
+    (λ c. search needs)
     returns
-    copy-requires-2
-    same-length-2
+    (λ c κs. search needs)
+    (λ c. search needs)
     returns-2)

@@ -15,20 +15,8 @@ Inv-loop work₀ to count from n end written₀ later₀ start₀ work written l
 abbrev μ-loop : tie.MeasureT-loop
 μ-loop work₀ to count from n end written₀ later₀ start₀ work written later start = n + 1 - start
 
-add-end : tie.Need-add-end Inv-loop μ-loop
-add-end c = omega arith
-
 loop-holds : tie.Need-loop-holds Inv-loop μ-loop
 loop-holds c = (omega arith, refl, branching-none _ _ _ _ _)
-
-sub-branch-at : tie.Need-sub-branch-at Inv-loop μ-loop
-sub-branch-at c = omega arith
-
-part-branch-at-start : tie.Need-part-branch-at-start Inv-loop μ-loop
-part-branch-at-start c = omega arith
-
-part-branch-at-end : tie.Need-part-branch-at-end Inv-loop μ-loop
-part-branch-at-end c = omega arith
 
 branch-at-requires : tie.Need-branch-at-requires Inv-loop μ-loop
 branch-at-requires c κs = (simp (length-take, length-drop) (omega arith), simp (length-take, length-drop) (omega arith))
@@ -36,13 +24,16 @@ branch-at-requires c κs = (simp (length-take, length-drop) (omega arith), simp 
 -- the branch that begins at `start`
 branch :
     (c : tie.After-branch-at Inv-loop μ-loop)
-    → (let l = c .before .before .before .before in let a = l .before .before .args in Branched (part (a .from) (a .n) (a .work .now)) (l .loop .start) (c .branch-at .result))
+    → (let at-loop : tie.At-loop Inv-loop μ-loop = search in let at-start : tie.Start Inv-loop μ-loop = search in let a = at-start .args in Branched (part (a .from) (a .n) (a .work .now)) (at-loop .loop .start) (c .branch-at .result))
 branch c =
-    let l = c .before .before .before .before in
-    subst (λ s. Branched s (l .loop .start) (c .branch-at .result)) (branches-read (l .loop .inv .2 .appended) (l .before .before .pre .0)) (c .branch-at .ensures)
+    let at-loop : tie.At-loop Inv-loop μ-loop = search in
+    let at-start : tie.Start Inv-loop μ-loop = search in
+    subst (λ s. Branched s (at-loop .loop .start) (c .branch-at .result)) (branches-read (at-loop .loop .inv .2 .appended) (at-start .pre .0)) (c .branch-at .ensures)
 
-long : (c : tie.After-branch-at Inv-loop μ-loop) → (let a = c .before .before .before .before .before .before .args in length (part (a .from) (a .n) (a .work .now)) ≡ a .n)
-long c = let s = c .before .before .before .before .before .before in length-part (s .args .from) (s .args .n) (s .args .work .now) (s .pre .0 .source)
+long : (c : tie.After-branch-at Inv-loop μ-loop) → (let at-start : tie.Start Inv-loop μ-loop = search in let a = at-start .args in length (part (a .from) (a .n) (a .work .now)) ≡ a .n)
+long c =
+    let at-start : tie.Start Inv-loop μ-loop = search in
+    length-part (at-start .args .from) (at-start .args .n) (at-start .args .work .now) (at-start .pre .0 .source)
 
 sub-k : tie.Need-sub-k Inv-loop μ-loop
 sub-k c = c .before .branch-at .ensures .order
@@ -52,42 +43,49 @@ loop-less c = let b = branch (c .before .before) in let n = long (c .before .bef
 
 loop-again : tie.Need-loop-again Inv-loop μ-loop
 loop-again c =
+    let at-loop : tie.At-loop Inv-loop μ-loop = search in
     let b = branch (c .before .before) in
     let n = long (c .before .before) in
-    let l = c .before .before .before .before .before .before in
-    (omega arith, l .loop .inv .1, branching-blank (l .loop .inv .2) b (c .if1 .taken))
+    (omega arith, at-loop .loop .inv .1, branching-blank (at-loop .loop .inv .2) b (c .if1 .taken))
 
 add-put-branch : tie.Need-add-put-branch Inv-loop μ-loop
-add-put-branch c = let b = branch (c .before .before .before .before) in let n = long (c .before .before .before .before) in omega arith
+add-put-branch c =
+    let at-branch-at : tie.After-branch-at Inv-loop μ-loop = search in
+    let b = branch at-branch-at in let n = long at-branch-at in omega arith
 
 put-branch-requires : tie.Need-put-branch-requires Inv-loop μ-loop
 put-branch-requires c κs =
-    let l = c .before .before .before .before .before .before .before .before in
-    let s = l .before .before in
-    let b = branch (c .before .before .before .before) in
-    let n = long (c .before .before .before .before) in
-    let slow = l .loop .inv .2 .slow in
-    let regions = s .pre .0 in
-    let r = c .before .before .before .before .branch-at .result in
-    (record { region = omega arith; small = omega arith }, (omega arith, apart-part (s .args .from) (s .args .n) (s .args .to) 8192 (r .start) (r .end - r .start) (regions .apart) (omega arith)))
+    let at-branch-at : tie.After-branch-at Inv-loop μ-loop = search in
+    let at-loop : tie.At-loop Inv-loop μ-loop = search in
+    let at-start : tie.Start Inv-loop μ-loop = search in
+    let b = branch at-branch-at in
+    let n = long at-branch-at in
+    let slow = at-loop .loop .inv .2 .slow in
+    let regions = at-start .pre .0 in
+    let r = at-branch-at .branch-at .result in
+    (record { region = omega arith; small = omega arith }, (omega arith, apart-part (at-start .args .from) (at-start .args .n) (at-start .args .to) 8192 (r .start) (r .end - r .start) (regions .apart) (omega arith)))
 
 loop-less-2 : tie.Need-loop-less-2 Inv-loop μ-loop
-loop-less-2 c = let b = branch (c .before .before .before .before .before .before .before) in let n = long (c .before .before .before .before .before .before .before) in omega arith
+loop-less-2 c =
+    let at-branch-at : tie.After-branch-at Inv-loop μ-loop = search in
+    let b = branch at-branch-at in let n = long at-branch-at in omega arith
 
 loop-again-2 : tie.Need-loop-again-2 Inv-loop μ-loop
 loop-again-2 c =
-    let l = c .before .before .before .before .before .before .before .before .before .before .before in
-    let s = l .before .before in
-    let b = branch (c .before .before .before .before .before .before .before) in
-    let n = long (c .before .before .before .before .before .before .before) in
-    let r = c .before .before .before .before .before .before .before .branch-at .result in
-    let k = c .before .before .before .before .before .if1 .left in
+    let else1 : tie.Else1 Inv-loop μ-loop = search in
+    let at-branch-at : tie.After-branch-at Inv-loop μ-loop = search in
+    let at-loop : tie.At-loop Inv-loop μ-loop = search in
+    let at-start : tie.Start Inv-loop μ-loop = search in
+    let b = branch at-branch-at in
+    let n = long at-branch-at in
+    let r = at-branch-at .branch-at .result in
+    let k = else1 .if1 .left in
     let some : 0 < r .end - r .start = omega arith in
-    let read = branch-read (l .loop .inv .2 .appended) (s .pre .0) (r .start) (r .end - r .start) (omega arith) in
+    let read = branch-read (at-loop .loop .inv .2 .appended) (at-start .pre .0) (r .start) (r .end - r .start) (omega arith) in
     let put = c .before .before .put-branch .ensures in (
       omega arith,
       omega (arith, appended-long put),
-      branching-more (l .loop .inv .2) b some (rw read at put),
+      branching-more (at-loop .loop .inv .2) b some (rw read at put),
     )
 
 same-length : tie.Need-same-length Inv-loop μ-loop
@@ -107,11 +105,11 @@ put-branches-spec =
     (tie.spec
     Inv-loop
     μ-loop
-    add-end
+    (λ c. omega arith)
     loop-holds
-    sub-branch-at
-    part-branch-at-start
-    part-branch-at-end
+    (λ c. omega arith)
+    (λ c. omega arith)
+    (λ c. omega arith)
     branch-at-requires
     sub-k
     loop-less

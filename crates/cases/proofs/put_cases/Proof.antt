@@ -6,38 +6,25 @@ use borrow.Author.Needs.{needs}
 use Rattle.cases.proofs.put_cases.Statement.{statement}
 use Rattle.cases.proofs.put_cases.Tie as tie
 
-slice-aggregate-put-all : tie.Need-slice-aggregate-put-all
-slice-aggregate-put-all c = search needs
-
-put-all-requires : tie.Need-put-all-requires
-put-all-requires c κs = search needs
-
 put-branches-requires : tie.Need-put-branches-requires
 put-branches-requires c κs =
-    let s = c .before .before .before .before .before .before .before in
+    let at-start : tie.Start = search in
     let a = c .before .before .before .put-all .ensures in
     let l = appended-long a in
     let n = a .counted in
-    let r = s .pre .0 in
-    (record { source = omega arith; region = omega arith; apart = r .apart; short = r .short; small = omega arith }, s .pre .1)
-
-slice-aggregate-put-all-2 : tie.Need-slice-aggregate-put-all-2
-slice-aggregate-put-all-2 c = search needs
-
-put-all-requires-2 : tie.Need-put-all-requires-2
-put-all-requires-2 c κs = search needs
-
-same-length : tie.Need-same-length
-same-length c = search needs
+    let r = at-start .pre .0 in
+    (record { source = omega arith; region = omega arith; apart = r .apart; short = r .short; small = omega arith }, at-start .pre .1)
 
 returns : tie.Need-returns
 unfolding latexCases
 returns c =
-    let s = c .before .before .before .before .before .before .before .before .before .before .before .before .before .before .before in
-    let a = c .before .before .before .before .before .before .before .before .before .before .before .put-all .ensures in
-    let b = c .before .before .before .before .before .before .before .put-branches .ensures in
+    let at-put-branches : tie.After-put-branches = search in
+    let at-put-all : tie.After-put-all = search in
+    let at-start : tie.Start = search in
+    let a = at-put-all .put-all .ensures in
+    let b = at-put-branches .put-branches .ensures in
     let d = c .before .before .put-all2 .ensures in
-    let same = appended-part a (s .args .from) (s .args .n) (s .pre .0 .apart) in
+    let same = appended-part a (at-start .args .from) (at-start .args .n) (at-start .pre .0 .apart) in
     let n = a .counted in
     let m = d .counted in
     (appended-more (appended-more a (rw same at (b .0))) d, omega arith)
@@ -46,10 +33,10 @@ pub put-cases-spec : {M : Type 1} → statement M
 put-cases-spec =
     tie.close
     (tie.spec
-    slice-aggregate-put-all
-    put-all-requires
+    (λ c. search needs)
+    (λ c κs. search needs)
     put-branches-requires
-    slice-aggregate-put-all-2
-    put-all-requires-2
-    same-length
+    (λ c. search needs)
+    (λ c κs. search needs)
+    (λ c. search needs)
     returns)

@@ -6,12 +6,6 @@ use borrow.Author.Needs.{needs}
 use Rattle.delimiters.proofs.argument_of.Statement.{statement}
 use Rattle.delimiters.proofs.argument_of.Tie as tie
 
-trim-requires : tie.Need-trim-requires
-trim-requires c κs = search needs
-
-trim-requires-2 : tie.Need-trim-requires-2
-trim-requires-2 c κs = search needs
-
 returns : tie.Need-returns
 returns c =
     let a = c .before .trim .ensures in
@@ -23,4 +17,4 @@ returns-2 c =
     record { from = omega arith; order = c .before .before .pre .order; to = omega arith; text = rw (c .if1 .left) }
 
 pub argument-of-spec : {M : Type 1} → statement M
-argument-of-spec = tie.close (tie.spec trim-requires trim-requires-2 returns returns-2)
+argument-of-spec = tie.close (tie.spec (λ c κs. search needs) (λ c κs. search needs) returns returns-2)

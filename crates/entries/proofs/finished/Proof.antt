@@ -7,9 +7,6 @@ use borrow.Author.Needs.{needs}
 use Rattle.entries.proofs.finished.Statement.{statement}
 use Rattle.entries.proofs.finished.Tie as tie
 
-sub-if1 : tie.Need-sub-if1
-sub-if1 c = search needs
-
 returns : tie.Need-returns
 returns c = rw (lt-ltb mostSymbols (c .before .args .count + c .before .args .extra) (omega arith))
 
@@ -17,4 +14,4 @@ returns-2 : tie.Need-returns-2
 returns-2 c = rw (le-ltb mostSymbols (c .before .args .count + c .before .args .extra) (omega arith))
 
 pub finished-spec : {M : Type 1} → statement M
-finished-spec = tie.close (tie.spec sub-if1 returns returns-2)
+finished-spec = tie.close (tie.spec (λ c. search needs) returns returns-2)

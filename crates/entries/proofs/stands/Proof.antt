@@ -8,53 +8,32 @@ use borrow.Author.Needs.{needs}
 use Rattle.entries.proofs.stands.Statement.{statement}
 use Rattle.entries.proofs.stands.Tie as tie
 
-sub-starts-with : tie.Need-sub-starts-with
-sub-starts-with c = search needs
-
-part-starts-with-start : tie.Need-part-starts-with-start
-part-starts-with-start c = search needs
-
-part-starts-with-end : tie.Need-part-starts-with-end
-part-starts-with-end c = search needs
-
-starts-with-requires : tie.Need-starts-with-requires
-starts-with-requires c κs = search needs
-
 returns : tie.Need-returns
 returns c =
-    let a = c .before .before .before .before .before .args in
+    let at-start : tie.Start = search in
+    let a = at-start .args in
     stands-not (a .bounds) (a .pattern .now) _ _ (ap (starts (a .pattern .now)) (sym (rest-of (a .i) (a .s .now))) ∙ sym (c .before .starts-with .ensures) ∙ not-true _ (c .if1 .taken))
-
-add-symbol : tie.Need-add-symbol
-add-symbol c = search needs
-
-symbol-requires : tie.Need-symbol-requires
-symbol-requires c κs = search needs
-
-before-requires : tie.Need-before-requires
-before-requires c κs = search needs
-
-is-allowed-requires : tie.Need-is-allowed-requires
-is-allowed-requires c κs = search needs
 
 returns-2 : tie.Need-returns-2
 returns-2 c =
-    let a = c .before .before .before .before .before .before .before .before .args in
+    let at-starts-with : tie.After-starts-with = search in
+    let at-start : tie.Start = search in
+    let a = at-start .args in
     c .is-allowed .ensures
     ∙ ap₂ (allowed (a .bounds)) (c .before .before2 .ensures) (c .before .before .symbol .ensures ∙ behind-at (a .pattern .now) (a .s .now) (a .i))
-    ∙ stands-met (a .bounds) (a .pattern .now) _ _ (ap (starts (a .pattern .now)) (sym (rest-of (a .i) (a .s .now))) ∙ sym (c .before .before .before .before .starts-with .ensures) ∙ not-false _ (c .before .before .before .if1 .left))
+    ∙ stands-met (a .bounds) (a .pattern .now) _ _ (ap (starts (a .pattern .now)) (sym (rest-of (a .i) (a .s .now))) ∙ sym (at-starts-with .starts-with .ensures) ∙ not-false _ (c .before .before .before .if1 .left))
 
 pub stands-spec : {M : Type 1} → statement M
 stands-spec =
     tie.close
     (tie.spec
-    sub-starts-with
-    part-starts-with-start
-    part-starts-with-end
-    starts-with-requires
+    (λ c. search needs)
+    (λ c. search needs)
+    (λ c. search needs)
+    (λ c κs. search needs)
     returns
-    add-symbol
-    symbol-requires
-    before-requires
-    is-allowed-requires
+    (λ c. search needs)
+    (λ c κs. search needs)
+    (λ c κs. search needs)
+    (λ c κs. search needs)
     returns-2)

@@ -8,25 +8,20 @@ use borrow.Author.Needs.{needs}
 use Rattle.quotes.proofs.after_quote.Statement.{statement}
 use Rattle.quotes.proofs.after_quote.Tie as tie
 
-skip-requires : tie.Need-skip-requires
-skip-requires c κs = search needs
-
-symbol-requires : tie.Need-symbol-requires
-symbol-requires c κs = search needs
-
-is-alnum-requires : tie.Need-is-alnum-requires
-is-alnum-requires c κs = search needs
-
 -- the test of that symbol, as the definition has it
-test : (c : tie.After-is-alnum) → (let x = getD (c .before .before .before .before .args .s .now) (c .before .before .skip .result .start) 0 in (c .is-alnum .result || is "\"" (c .before .symbol .result)) ≡ (alnum x || is "\"" x))
+test : (c : tie.After-is-alnum) → (let at-start : tie.Start = search in let x = getD (at-start .args .s .now) (c .before .before .skip .result .start) 0 in (c .is-alnum .result || is "\"" (c .before .symbol .result)) ≡ (alnum x || is "\"" x))
 test c = ap (λ b. b || is "\"" (c .before .symbol .result)) (c .is-alnum .ensures) ∙ ap (λ x. alnum x || is "\"" x) (c .before .symbol .ensures)
 
 returns : tie.Need-returns
-returns c = closed-gap (c .before .before .before .before .before .pre) (c .before .before .before .skip .ensures) (sym (test (c .before)) ∙ c .if1 .taken)
+returns c =
+    let at-start : tie.Start = search in
+    closed-gap (at-start .pre) (c .before .before .before .skip .ensures) (sym (test (c .before)) ∙ c .if1 .taken)
 
 returns-2 : tie.Need-returns-2
-returns-2 c = closed-plain (c .before .before .before .before .before .pre) (c .before .before .before .skip .ensures) (sym (test (c .before)) ∙ c .if1 .left)
+returns-2 c =
+    let at-start : tie.Start = search in
+    closed-plain (at-start .pre) (c .before .before .before .skip .ensures) (sym (test (c .before)) ∙ c .if1 .left)
 
 pub after-quote-spec : {M : Type 1} → statement M
 after-quote-spec =
-    tie.close (tie.spec skip-requires symbol-requires is-alnum-requires returns returns-2)
+    tie.close (tie.spec (λ c κs. search needs) (λ c κs. search needs) (λ c κs. search needs) returns returns-2)

@@ -5,17 +5,10 @@ use borrow.Author.Needs.{needs}
 use Rattle.rewrite.proofs.convert_sqrt.Statement.{statement}
 use Rattle.rewrite.proofs.convert_sqrt.Tie as tie
 
-slice-aggregate-convert : tie.Need-slice-aggregate-convert
-slice-aggregate-convert c = search needs
-
-slice-aggregate-convert-2 : tie.Need-slice-aggregate-convert-2
-slice-aggregate-convert-2 c = search needs
-
 convert-requires : tie.Need-convert-requires
-convert-requires c κs = (c .before .before .before .before .pre, record { some = omega arith; short = omega arith })
-
-same-length : tie.Need-same-length
-same-length c = search needs
+convert-requires c κs =
+    let at-start : tie.Start = search in
+    (at-start .pre, record { some = omega arith; short = omega arith })
 
 returns : tie.Need-returns
 unfolding convertSqrt
@@ -25,8 +18,8 @@ pub convert-sqrt-spec : {M : Type 1} → statement M
 convert-sqrt-spec =
     tie.close
     (tie.spec
-    slice-aggregate-convert
-    slice-aggregate-convert-2
+    (λ c. search needs)
+    (λ c. search needs)
     convert-requires
-    same-length
+    (λ c. search needs)
     returns)

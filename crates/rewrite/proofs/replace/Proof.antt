@@ -4,12 +4,6 @@ use borrow.Author.Needs.{needs}
 use Rattle.rewrite.proofs.replace.Statement.{statement}
 use Rattle.rewrite.proofs.replace.Tie as tie
 
-convert-requires : tie.Need-convert-requires
-convert-requires c κs = search needs
-
-same-length : tie.Need-same-length
-same-length c = search needs
-
 returns : tie.Need-returns
 unfolding replace
 returns c = c .before .before .convert .ensures
@@ -18,6 +12,6 @@ pub replace-spec : {M : Type 1} → statement M
 replace-spec =
     tie.close
     (tie.spec
-    convert-requires
-    same-length
+    (λ c κs. search needs)
+    (λ c. search needs)
     returns)

@@ -1,5 +1,5 @@
 -- `entries::presence::is_missing` meets its contract. The loop's invariant: the pairs from i on decide. Assumes nothing.
-use Prim.Native.Nat.{_-_, _≤_, _<_}
+use Prim.Native.Nat.{_-_, _≤_}
 use mathlib.Core.Path.{_≡_, refl, sym, _∙_}
 use native.Mathlib.Omega.{arith}
 use lib.ListN.{length, drop}
@@ -19,32 +19,26 @@ loop-holds c = (omega arith, refl, refl)
 sub-pair : tie.Need-sub-pair Inv-loop μ-loop
 sub-pair c = c .before .loop .inv .0
 
-shared-slice-read-pair : tie.Need-shared-slice-read-pair Inv-loop μ-loop
-shared-slice-read-pair c = omega arith
-
-shared-slice-read-pair-2 : tie.Need-shared-slice-read-pair-2 Inv-loop μ-loop
-shared-slice-read-pair-2 c = omega arith
-
 pair-requires : tie.Need-pair-requires Inv-loop μ-loop
 pair-requires c κs = tt
 
 element-copy-out-if1 : tie.Need-element-copy-out-if1 Inv-loop μ-loop
-element-copy-out-if1 c = let l = c .before .before .before .before .loop in let a = c .before .shared-slice-known3 .given (l .i - 1) in let b = c .before .shared-slice-known3 .given (l .i) in let p = c .pair .ensures in omega arith
+element-copy-out-if1 c =
+    let at-loop : tie.At-loop Inv-loop μ-loop = search in
+    let l = at-loop .loop in let a = c .before .shared-slice-known3 .given (l .i - 1) in let b = c .before .shared-slice-known3 .given (l .i) in let p = c .pair .ensures in omega arith
 
 returns : tie.Need-returns Inv-loop μ-loop
 returns c =
-    let l = c .before .before .before .before .before .before .loop in let a = c .before .before .before .before .before .before .before .before .args in
+    let at-loop : tie.At-loop Inv-loop μ-loop = search in
+    let at-start : tie.Start Inv-loop μ-loop = search in
+    let l = at-loop .loop in let a = at-start .args in
     sym (missing-here (a .seen .now) (a .pattern .now) (l .i) (l .inv .0) (c .before .before .pair .result) (omega arith) (c .before .before .pair .ensures) (c .if1 .taken)) ∙ l .inv .2
-
-add-i : tie.Need-add-i Inv-loop μ-loop
-add-i c = omega arith
-
-loop-less : tie.Need-loop-less Inv-loop μ-loop
-loop-less c = omega arith
 
 loop-again : tie.Need-loop-again Inv-loop μ-loop
 loop-again c =
-    let l = c .before .before .before .before .before .before .loop in let a = c .before .before .before .before .before .before .before .before .args in
+    let at-loop : tie.At-loop Inv-loop μ-loop = search in
+    let at-start : tie.Start Inv-loop μ-loop = search in
+    let l = at-loop .loop in let a = at-start .args in
     (omega arith, refl, sym (missing-later (a .seen .now) (a .pattern .now) (l .i) (l .inv .0) (c .before .before .pair .result) (omega arith) (c .before .before .pair .ensures) (c .if1 .left)) ∙ l .inv .2)
 
 returns-2 : tie.Need-returns-2 Inv-loop μ-loop
@@ -60,12 +54,12 @@ is-missing-spec =
     μ-loop
     loop-holds
     sub-pair
-    shared-slice-read-pair
-    shared-slice-read-pair-2
+    (λ c. omega arith)
+    (λ c. omega arith)
     pair-requires
     element-copy-out-if1
     returns
-    add-i
-    loop-less
+    (λ c. omega arith)
+    (λ c. omega arith)
     loop-again
     returns-2)

@@ -1,5 +1,5 @@
 -- `entries::presence::mark_pairs` meets its contract. The loop's invariant: the pairs from i on are left to be marked. Assumes nothing.
-use Prim.Native.Nat.{_-_, _≤_, _<_}
+use Prim.Native.Nat.{_-_, _≤_}
 use mathlib.Core.Path.{_≡_, refl, sym, _∙_}
 use native.Mathlib.Omega.{arith}
 use lib.ListN.{length, length-set}
@@ -19,27 +19,18 @@ loop-holds c = (omega arith, refl, c .before .pre, marking-none _ _)
 sub-pair : tie.Need-sub-pair Inv-loop μ-loop
 sub-pair c = c .before .loop .inv .0
 
-shared-slice-read-pair : tie.Need-shared-slice-read-pair Inv-loop μ-loop
-shared-slice-read-pair c = omega arith
-
-shared-slice-read-pair-2 : tie.Need-shared-slice-read-pair-2 Inv-loop μ-loop
-shared-slice-read-pair-2 c = omega arith
-
 pair-requires : tie.Need-pair-requires Inv-loop μ-loop
 pair-requires c κs = tt
 
 element-write-seen : tie.Need-element-write-seen Inv-loop μ-loop
-element-write-seen c = let l = c .before .before .before .before .loop in let a = c .before .shared-slice-known3 .given (l .i - 1) in let b = c .before .shared-slice-known3 .given (l .i) in let p = c .pair .ensures in omega arith
-
-add-i : tie.Need-add-i Inv-loop μ-loop
-add-i c = omega arith
-
-loop-less : tie.Need-loop-less Inv-loop μ-loop
-loop-less c = omega arith
+element-write-seen c =
+    let at-loop : tie.At-loop Inv-loop μ-loop = search in
+    let l = at-loop .loop in let a = c .before .shared-slice-known3 .given (l .i - 1) in let b = c .before .shared-slice-known3 .given (l .i) in let p = c .pair .ensures in omega arith
 
 loop-again : tie.Need-loop-again Inv-loop μ-loop
 loop-again c =
-    let l = c .before .before .before .before .loop in let a = c .before .shared-slice-known3 .given (l .i - 1) in let b = c .before .shared-slice-known3 .given (l .i) in let p = c .pair .ensures in let k = l .inv .2 in
+    let at-loop : tie.At-loop Inv-loop μ-loop = search in
+    let l = at-loop .loop in let a = c .before .shared-slice-known3 .given (l .i - 1) in let b = c .before .shared-slice-known3 .given (l .i) in let p = c .pair .ensures in let k = l .inv .2 in
     (omega arith, refl, length-set (l .seen) _ 1 ∙ k, marking-more (c .pair .result) (l .inv .3) (l .inv .0) (omega arith) p (omega arith))
 
 returns : tie.Need-returns Inv-loop μ-loop
@@ -53,11 +44,11 @@ mark-pairs-spec =
     μ-loop
     loop-holds
     sub-pair
-    shared-slice-read-pair
-    shared-slice-read-pair-2
+    (λ c. omega arith)
+    (λ c. omega arith)
     pair-requires
     element-write-seen
-    add-i
-    loop-less
+    (λ c. omega arith)
+    (λ c. omega arith)
     loop-again
     returns)

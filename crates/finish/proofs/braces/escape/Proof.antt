@@ -20,52 +20,32 @@ Inv-loop work₀ from n to end count₀ i₀ work count i =
 abbrev μ-loop : tie.MeasureT-loop
 μ-loop work₀ from n to end count₀ i₀ work count i = n - i
 
-add-end : tie.Need-add-end Inv-loop μ-loop
-add-end c = omega arith
-
 loop-holds : tie.Need-loop-holds Inv-loop μ-loop
 loop-holds c =
     let a = c .before .args in
     let s = part (a .from) (a .n) (a .work .now) in
     (refl, refl, omega arith, omega arith, subst (λ r. Filling (a .work .now) (a .work .now) (a .to) 8192 0 0 r (escapeSetBraces s)) (sym (braced-first s)) (filling-none _ _ _ _ _))
 
-sub-is-bare : tie.Need-sub-is-bare Inv-loop μ-loop
-sub-is-bare c = omega arith
-
-part-is-bare-start : tie.Need-part-is-bare-start Inv-loop μ-loop
-part-is-bare-start c = omega arith
-
-part-is-bare-end : tie.Need-part-is-bare-end Inv-loop μ-loop
-part-is-bare-end c = omega arith
-
 is-bare-requires : tie.Need-is-bare-requires Inv-loop μ-loop
 is-bare-requires c κs = (simp (length-take, length-drop) (omega arith), simp (length-take, length-drop) (omega arith))
 
-add-b : tie.Need-add-b Inv-loop μ-loop
-add-b c = omega arith
-
-slice-read-b : tie.Need-slice-read-b Inv-loop μ-loop
-slice-read-b c = omega arith
-
 put-brace-requires : tie.Need-put-brace-requires Inv-loop μ-loop
-put-brace-requires c κs = let p = c .before .before .before .before .before .before .before .before .pre in record { region = omega arith; small = omega arith }
-
-add-i : tie.Need-add-i Inv-loop μ-loop
-add-i c = omega arith
-
-loop-less : tie.Need-loop-less Inv-loop μ-loop
-loop-less c = omega arith
+put-brace-requires c κs =
+    let at-start : tie.Start Inv-loop μ-loop = search in
+    let p = at-start .pre in record { region = omega arith; small = omega arith }
 
 loop-again : tie.Need-loop-again Inv-loop μ-loop
 loop-again c =
-    let l = c .before .before .before .before .before .before .before .before .before in
-    let s = l .before .before in
-    let more = braced-few (s .pre .0) (l .loop .inv .4) (c .before .before .before .before .before .before .before .before .loop-test .taken) (c .before .before .before .before .before .is-bare .ensures) (c .before .before .put-brace .ensures) in (
+    let at-is-bare : tie.After-is-bare Inv-loop μ-loop = search in
+    let in-loop : tie.In-loop Inv-loop μ-loop = search in
+    let at-loop : tie.At-loop Inv-loop μ-loop = search in
+    let at-start : tie.Start Inv-loop μ-loop = search in
+    let more = braced-few (at-start .pre .0) (at-loop .loop .inv .4) (in-loop .loop-test .taken) (at-is-bare .is-bare .ensures) (c .before .before .put-brace .ensures) in (
       refl,
       omega (arith, appended-long (c .before .before .put-brace .ensures)),
       omega arith,
       omega arith,
-      braced-more (s .pre .0) (l .loop .inv .4) (c .before .before .before .before .before .before .before .before .loop-test .taken) (c .before .before .before .before .before .is-bare .ensures) (c .before .before .put-brace .ensures),
+      braced-more (at-start .pre .0) (at-loop .loop .inv .4) (in-loop .loop-test .taken) (at-is-bare .is-bare .ensures) (c .before .before .put-brace .ensures),
     )
 
 same-length : tie.Need-same-length Inv-loop μ-loop
@@ -85,17 +65,17 @@ escape-spec =
     (tie.spec
     Inv-loop
     μ-loop
-    add-end
+    (λ c. omega arith)
     loop-holds
-    sub-is-bare
-    part-is-bare-start
-    part-is-bare-end
+    (λ c. omega arith)
+    (λ c. omega arith)
+    (λ c. omega arith)
     is-bare-requires
-    add-b
-    slice-read-b
+    (λ c. omega arith)
+    (λ c. omega arith)
     put-brace-requires
-    add-i
-    loop-less
+    (λ c. omega arith)
+    (λ c. omega arith)
     loop-again
     same-length
     returns)

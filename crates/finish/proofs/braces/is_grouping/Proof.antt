@@ -3,9 +3,6 @@ use borrow.Author.Needs.{needs}
 use Rattle.finish.proofs.braces.is_grouping.Statement.{statement}
 use Rattle.finish.proofs.braces.is_grouping.Tie as tie
 
-is-alnum-requires : tie.Need-is-alnum-requires
-is-alnum-requires c κs = search needs
-
 returns : tie.Need-returns
 returns c = rw (c .is-alnum .ensures)
 
@@ -13,5 +10,5 @@ pub is-grouping-spec : {M : Type 1} → statement M
 is-grouping-spec =
     tie.close
     (tie.spec
-    is-alnum-requires
+    (λ c κs. search needs)
     returns)

@@ -8,32 +8,33 @@ use Rattle.finish.proofs.braces.put_brace.Tie as tie
 put-requires : tie.Need-put-requires
 put-requires c κs = let r = c .before .before .before .pre in record { region = r .region; small = omega arith }
 
-same-length : tie.Need-same-length
-same-length c = search needs
-
 returns : tie.Need-returns
-returns c = rw (c .before .before .before .before .if1 .taken) (c .before .before .put .ensures)
+returns c =
+    let then1 : tie.Then1 = search in
+    rw (then1 .if1 .taken) (c .before .before .put .ensures)
 
 put-requires-2 : tie.Need-put-requires-2
 put-requires-2 c κs = let r = c .before .before .before .pre in record { region = r .region; small = omega arith }
 
 put-requires-3 : tie.Need-put-requires-3
-put-requires-3 c κs = room-left 1 (c .before .before .before .put2 .ensures) (c .before .before .before .before .before .before .before .pre)
-
-same-length-2 : tie.Need-same-length-2
-same-length-2 c = search needs
+put-requires-3 c κs =
+    let at-start : tie.Start = search in
+    room-left 1 (c .before .before .before .put2 .ensures) (at-start .pre)
 
 returns-2 : tie.Need-returns-2
-returns-2 c = rw (c .before .before .before .before .before .before .before .before .if1 .left) (appended-more (c .before .before .before .before .before .before .put2 .ensures) (c .before .before .put3 .ensures))
+returns-2 c =
+    let at-put2 : tie.After-put2 = search in
+    let else1 : tie.Else1 = search in
+    rw (else1 .if1 .left) (appended-more (at-put2 .put2 .ensures) (c .before .before .put3 .ensures))
 
 pub put-brace-spec : {M : Type 1} → statement M
 put-brace-spec =
     tie.close
     (tie.spec
     put-requires
-    same-length
+    (λ c. search needs)
     returns
     put-requires-2
     put-requires-3
-    same-length-2
+    (λ c. search needs)
     returns-2)

@@ -10,123 +10,107 @@ use borrow.Author.Needs.{needs}
 use Rattle.layout.proofs.alignment.convert_alignment.Statement.{statement}
 use Rattle.layout.proofs.alignment.convert_alignment.Tie as tie
 
-enum-known-text : tie.Need-enum-known-text
-enum-known-text c = search needs
-
-enum-told : tie.Need-enum-told
-enum-told c = search needs
-
-returns : tie.Need-returns
-returns c = search needs
-
 add-end : tie.Need-add-end
-add-end c = let f = placed-fits (c .before .before .before .before .pre) (c .before .text .given .1) in omega arith
+add-end c =
+    let at-start : tie.Start = search in
+    let f = placed-fits (at-start .pre) (c .before .text .given .1) in omega arith
 
 sub-to : tie.Need-sub-to
-sub-to c = let g = placed-low (c .before .before .before .before .pre) (c .before .text .given .1) in omega arith
-
-sub-has-alignment : tie.Need-sub-has-alignment
-sub-has-alignment c = omega arith
-
-part-has-alignment-start : tie.Need-part-has-alignment-start
-part-has-alignment-start c = omega arith
+sub-to c =
+    let at-start : tie.Start = search in
+    let g = placed-low (at-start .pre) (c .before .text .given .1) in omega arith
 
 part-has-alignment-end : tie.Need-part-has-alignment-end
-part-has-alignment-end c = let f = placed-fits (c .before .before .before .before .before .pre) (c .before .before .text .given .1) in omega arith
-
-has-alignment-requires : tie.Need-has-alignment-requires
-has-alignment-requires c κs = search needs
+part-has-alignment-end c =
+    let at-start : tie.Start = search in
+    let f = placed-fits (at-start .pre) (c .before .before .text .given .1) in omega arith
 
 put-aligned-requires : tie.Need-put-aligned-requires
-put-aligned-requires c κs = placed-regions (c .before .before .before .before .before .before .before .before .before .pre) (c .before .before .before .before .before .before .text .given .1)
-
-finished-requires : tie.Need-finished-requires
-finished-requires c κs = search needs
-
-same-length : tie.Need-same-length
-same-length c = search needs
+put-aligned-requires c κs =
+    let at-text : tie.After-text = search in
+    let at-start : tie.Start = search in
+    placed-regions (at-start .pre) (at-text .text .given .1)
 
 returns-2 : tie.Need-returns-2
 returns-2 c =
-    let s = c .before .before .before .before .before .before .before .before .before .before .before .before .before in
-    let t = c .before .before .before .before .before .before .before .before .before .before .text .given in
-    let text = part (t .0 .0) (t .0 .1 .0) (s .args .work .now) in
-    let has = ap hasAlignment (sym (whole-part (t .0 .0) (t .0 .1 .0) (s .args .work .now))) ∙ sym (c .before .before .before .before .before .before .has-alignment .ensures) ∙ c .before .before .before .before .before .if1 .taken in
-    staged-written (s .pre) (t .1) convertAlignment (appended-written (c .before .before .before .put-aligned .ensures .appended) (placed-regions (s .pre) (t .1) .region)) (align-some text has) (c .finished .ensures)
-
-sub-has-line-breaks : tie.Need-sub-has-line-breaks
-sub-has-line-breaks c = omega arith
-
-part-has-line-breaks-start : tie.Need-part-has-line-breaks-start
-part-has-line-breaks-start c = omega arith
+    let then1 : tie.Then1 = search in
+    let at-has-alignment : tie.After-has-alignment = search in
+    let at-text : tie.After-text = search in
+    let at-start : tie.Start = search in
+    let t = at-text .text .given in
+    let text = part (t .0 .0) (t .0 .1 .0) (at-start .args .work .now) in
+    let has = ap hasAlignment (sym (whole-part (t .0 .0) (t .0 .1 .0) (at-start .args .work .now))) ∙ sym (at-has-alignment .has-alignment .ensures) ∙ then1 .if1 .taken in
+    staged-written (at-start .pre) (t .1) convertAlignment (appended-written (c .before .before .before .put-aligned .ensures .appended) (placed-regions (at-start .pre) (t .1) .region)) (align-some text has) (c .finished .ensures)
 
 part-has-line-breaks-end : tie.Need-part-has-line-breaks-end
-part-has-line-breaks-end c = let f = placed-fits (c .before .before .before .before .before .before .before .before .before .pre) (c .before .before .before .before .before .before .text .given .1) in omega arith
-
-has-line-breaks-requires : tie.Need-has-line-breaks-requires
-has-line-breaks-requires c κs = search needs
+part-has-line-breaks-end c =
+    let at-text : tie.After-text = search in
+    let at-start : tie.Start = search in
+    let f = placed-fits (at-start .pre) (at-text .text .given .1) in omega arith
 
 put-lines-requires : tie.Need-put-lines-requires
-put-lines-requires c κs = (placed-regions (c .before .before .before .before .before .before .before .before .before .before .before .before .before .pre) (c .before .before .before .before .before .before .before .before .before .before .text .given .1), (omega arith, omega arith))
-
-finished-requires-2 : tie.Need-finished-requires-2
-finished-requires-2 c κs = search needs
-
-same-length-2 : tie.Need-same-length-2
-same-length-2 c = search needs
+put-lines-requires c κs =
+    let at-text : tie.After-text = search in
+    let at-start : tie.Start = search in
+    (placed-regions (at-start .pre) (at-text .text .given .1), (omega arith, omega arith))
 
 returns-3 : tie.Need-returns-3
 returns-3 c =
-    let s = c .before .before .before .before .before .before .before .before .before .before .before .before .before .before .before .before .before in
-    let t = c .before .before .before .before .before .before .before .before .before .before .before .before .before .before .text .given in
-    let w = s .args .work .now in
+    let then2 : tie.Then2 = search in
+    let at-has-line-breaks : tie.After-has-line-breaks = search in
+    let else1 : tie.Else1 = search in
+    let at-has-alignment : tie.After-has-alignment = search in
+    let at-text : tie.After-text = search in
+    let at-start : tie.Start = search in
+    let t = at-text .text .given in
+    let w = at-start .args .work .now in
     let text = part (t .0 .0) (t .0 .1 .0) w in
     let same = whole-part (t .0 .0) (t .0 .1 .0) w in
-    let regions = placed-regions (s .pre) (t .1) in
-    let plain = ap hasAlignment (sym same) ∙ sym (c .before .before .before .before .before .before .before .before .before .before .has-alignment .ensures) ∙ c .before .before .before .before .before .before .before .before .before .if1 .left in
-    let has = ap hasLineBreaks (sym same) ∙ sym (c .before .before .before .before .before .before .has-line-breaks .ensures) ∙ c .before .before .before .before .before .if2 .taken in
+    let regions = placed-regions (at-start .pre) (t .1) in
+    let plain = ap hasAlignment (sym same) ∙ sym (at-has-alignment .has-alignment .ensures) ∙ else1 .if1 .left in
+    let has = ap hasLineBreaks (sym same) ∙ sym (at-has-line-breaks .has-line-breaks .ensures) ∙ then2 .if2 .taken in
     let whole = linedTo text (t .0 .1 .0) 0 in
-    staged-written (s .pre) (t .1) {t = whole} convertAlignment (appended-written {out = whole} (c .before .before .before .put-lines .ensures .appended) (regions .region))
+    staged-written (at-start .pre) (t .1) {t = whole} convertAlignment (appended-written {out = whole} (c .before .before .before .put-lines .ensures .appended) (regions .region))
     (align-breaks text plain has ∙ sym (lined-whole text (t .0 .1 .0) (length-part (t .0 .0) (t .0 .1 .0) w (regions .source)))) (c .finished2 .ensures)
-
-same-length-3 : tie.Need-same-length-3
-same-length-3 c = search needs
 
 returns-4 : tie.Need-returns-4
 returns-4 c =
-    let s = c .before .before .before .before .before .before .before .before .before .before .before .before in
-    let t = c .before .before .before .before .before .before .before .before .before .text .given in
-    let w = s .args .work .now in
+    let else1 : tie.Else1 = search in
+    let at-has-alignment : tie.After-has-alignment = search in
+    let at-text : tie.After-text = search in
+    let at-start : tie.Start = search in
+    let t = at-text .text .given in
+    let w = at-start .args .work .now in
     let text = part (t .0 .0) (t .0 .1 .0) w in
     let same = whole-part (t .0 .0) (t .0 .1 .0) w in
-    let plain = ap hasAlignment (sym same) ∙ sym (c .before .before .before .before .before .has-alignment .ensures) ∙ c .before .before .before .before .if1 .left in
+    let plain = ap hasAlignment (sym same) ∙ sym (at-has-alignment .has-alignment .ensures) ∙ else1 .if1 .left in
     let smooth = ap hasLineBreaks (sym same) ∙ sym (c .before .has-line-breaks .ensures) ∙ c .if2 .left in
-    staged-same (s .pre) (t .1) convertAlignment (align-none text plain smooth)
+    staged-same (at-start .pre) (t .1) convertAlignment (align-none text plain smooth)
 
 pub convert-alignment-spec : {M : Type 1} → statement M
 convert-alignment-spec =
     tie.close
     (tie.spec
-    enum-known-text
-    enum-told
-    returns
+    (λ c. search needs)
+    (λ c. search needs)
+    (λ c. search needs)
     add-end
     sub-to
-    sub-has-alignment
-    part-has-alignment-start
+    (λ c. omega arith)
+    (λ c. omega arith)
     part-has-alignment-end
-    has-alignment-requires
+    (λ c κs. search needs)
     put-aligned-requires
-    finished-requires
-    same-length
+    (λ c κs. search needs)
+    (λ c. search needs)
     returns-2
-    sub-has-line-breaks
-    part-has-line-breaks-start
+    (λ c. omega arith)
+    (λ c. omega arith)
     part-has-line-breaks-end
-    has-line-breaks-requires
+    (λ c κs. search needs)
     put-lines-requires
-    finished-requires-2
-    same-length-2
+    (λ c κs. search needs)
+    (λ c. search needs)
     returns-3
-    same-length-3
+    (λ c. search needs)
     returns-4)

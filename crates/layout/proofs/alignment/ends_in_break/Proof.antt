@@ -8,15 +8,6 @@ use Rattle.layout.proofs.alignment.ends_in_break.Tie as tie
 returns : tie.Need-returns
 returns c = sym (ends-none (c .before .args .s .now) (c .if1 .taken))
 
-shared-slice-read-result : tie.Need-shared-slice-read-result
-shared-slice-read-result c = omega arith
-
-sub-result : tie.Need-sub-result
-sub-result c = omega arith
-
-shared-slice-read-result-2 : tie.Need-shared-slice-read-result-2
-shared-slice-read-result-2 c = omega arith
-
 returns-2 : tie.Need-returns-2
 returns-2 c = ends-is (c .before .before .before .args .s .now) (c .before .before .if1 .left)
 
@@ -25,7 +16,7 @@ ends-in-break-spec =
     tie.close
     (tie.spec
     returns
-    shared-slice-read-result
-    sub-result
-    shared-slice-read-result-2
+    (λ c. omega arith)
+    (λ c. omega arith)
+    (λ c. omega arith)
     returns-2)

@@ -8,61 +8,53 @@ use borrow.Author.Needs.{needs}
 use Rattle.layout.proofs.alignment.put_aligned.Statement.{statement}
 use Rattle.layout.proofs.alignment.put_aligned.Tie as tie
 
-add-end : tie.Need-add-end
-add-end c = omega arith
-
-sub-trimmed : tie.Need-sub-trimmed
-sub-trimmed c = omega arith
-
-part-trimmed-start : tie.Need-part-trimmed-start
-part-trimmed-start c = omega arith
-
-part-trimmed-end : tie.Need-part-trimmed-end
-part-trimmed-end c = omega arith
-
-trimmed-requires : tie.Need-trimmed-requires
-trimmed-requires c κs = search needs
-
 put-begin-requires : tie.Need-put-begin-requires
-put-begin-requires c κs = let p = c .before .before .before .before .before .pre in record { region = p .region; small = omega arith }
+put-begin-requires c κs =
+    let at-start : tie.Start = search in
+    let p = at-start .pre in record { region = p .region; small = omega arith }
 
 put-lines-requires : tie.Need-put-lines-requires
 put-lines-requires c κs =
-    let s = c .before .before .before .before .before .before .before .before .before in let p = s .pre in
+    let at-trimmed : tie.After-trimmed = search in
+    let at-start : tie.Start = search in
+    let p = at-start .pre in
     let o = c .before .before .before .put-begin .ensures in let l = appended-long o in let k = o .counted in
-    let t = c .before .before .before .before .before .trimmed .ensures in
-    let m = length-take (s .args .from + s .args .n - s .args .from) (drop (s .args .from) (s .args .work .now)) in
+    let t = at-trimmed .trimmed .ensures in
+    let m = length-take (at-start .args .from + at-start .args .n - at-start .args .from) (drop (at-start .args .from) (at-start .args .work .now)) in
     (record { source = omega arith; region = omega arith; apart = p .apart; short = p .short; small = omega arith }, (t .order, omega arith))
 
 put-end-requires : tie.Need-put-end-requires
 put-end-requires c κs =
-    let s = c .before .before .before .before .before .before .before .before .before .before .before .before .before in let p = s .pre in
-    let o = c .before .before .before .before .before .before .before .put-begin .ensures in let l = appended-long o in let k = o .counted in
+    let at-put-begin : tie.After-put-begin = search in
+    let at-trimmed : tie.After-trimmed = search in
+    let at-start : tie.Start = search in
+    let p = at-start .pre in
+    let o = at-put-begin .put-begin .ensures in let l = appended-long o in let k = o .counted in
     let f = c .before .before .before .put-lines .ensures in let g = appended-long (f .appended) in let h = f .few in
-    let t = c .before .before .before .before .before .before .before .before .before .trimmed .ensures in
-    let m = length-take (s .args .from + s .args .n - s .args .from) (drop (s .args .from) (s .args .work .now)) in
+    let t = at-trimmed .trimmed .ensures in
+    let m = length-take (at-start .args .from + at-start .args .n - at-start .args .from) (drop (at-start .args .from) (at-start .args .work .now)) in
     record { region = omega arith; small = omega arith }
-
-same-length : tie.Need-same-length
-same-length c = search needs
 
 returns : tie.Need-returns
 returns c =
-    let s = c .before .before .before .before .before .before .before .before .before .before .before .before .before .before .before .before in
-    aligned-by (c .before .before .before .before .before .before .before .before .before .before .before .before .trimmed .ensures) (appended-part (c .before .before .before .before .before .before .before .before .before .before .put-begin .ensures) (s .args .from) (s .args .n) (s .pre .apart))
-    (c .before .before .before .before .before .before .before .before .before .before .put-begin .ensures) (c .before .before .before .before .before .before .put-lines .ensures .appended) (c .before .before .put-end .ensures)
+    let at-put-lines : tie.After-put-lines = search in
+    let at-put-begin : tie.After-put-begin = search in
+    let at-trimmed : tie.After-trimmed = search in
+    let at-start : tie.Start = search in
+    aligned-by (at-trimmed .trimmed .ensures) (appended-part (at-put-begin .put-begin .ensures) (at-start .args .from) (at-start .args .n) (at-start .pre .apart))
+    (at-put-begin .put-begin .ensures) (at-put-lines .put-lines .ensures .appended) (c .before .before .put-end .ensures)
 
 pub put-aligned-spec : {M : Type 1} → statement M
 put-aligned-spec =
     tie.close
     (tie.spec
-    add-end
-    sub-trimmed
-    part-trimmed-start
-    part-trimmed-end
-    trimmed-requires
+    (λ c. omega arith)
+    (λ c. omega arith)
+    (λ c. omega arith)
+    (λ c. omega arith)
+    (λ c κs. search needs)
     put-begin-requires
     put-lines-requires
     put-end-requires
-    same-length
+    (λ c. search needs)
     returns)

@@ -19,50 +19,30 @@ Inv-loop work₀ from n to count start stop end total₀ i₀ work total i =
 abbrev μ-loop : tie.MeasureT-loop
 μ-loop work₀ from n to count start stop end total₀ i₀ work total i = stop - i
 
-add-end : tie.Need-add-end Inv-loop μ-loop
-add-end c = omega arith
-
 loop-holds : tie.Need-loop-holds Inv-loop μ-loop
 loop-holds c = (refl, refl, omega arith, c .before .pre .1 .0, omega arith, filling-none _ _ _ _ _)
-
-sub-is-break : tie.Need-sub-is-break Inv-loop μ-loop
-sub-is-break c = omega arith
-
-part-is-break-start : tie.Need-part-is-break-start Inv-loop μ-loop
-part-is-break-start c = omega arith
-
-part-is-break-end : tie.Need-part-is-break-end Inv-loop μ-loop
-part-is-break-end c = omega arith
 
 is-break-requires : tie.Need-is-break-requires Inv-loop μ-loop
 is-break-requires c κs = simp (length-take, length-drop) (omega arith)
 
-add-b : tie.Need-add-b Inv-loop μ-loop
-add-b c = omega arith
-
-slice-read-b : tie.Need-slice-read-b Inv-loop μ-loop
-slice-read-b c = omega arith
-
 put-piece-requires : tie.Need-put-piece-requires Inv-loop μ-loop
-put-piece-requires c κs = let p = c .before .before .before .before .before .before .before .before .pre in record { region = omega arith; small = omega arith }
-
-add-i : tie.Need-add-i Inv-loop μ-loop
-add-i c = omega arith
-
-loop-less : tie.Need-loop-less Inv-loop μ-loop
-loop-less c = omega arith
+put-piece-requires c κs =
+    let at-start : tie.Start Inv-loop μ-loop = search in
+    let p = at-start .pre in record { region = omega arith; small = omega arith }
 
 loop-again : tie.Need-loop-again Inv-loop μ-loop
 loop-again c =
-    let l = c .before .before .before .before .before .before .before .before .before in
-    let s = l .before .before in
-    let few = lines-few (s .pre .0) (l .loop .inv .5) (c .before .before .before .before .before .before .before .before .loop-test .taken) (s .pre .1 .1) (c .before .before .before .before .before .is-break .ensures) (c .before .before .put-piece .ensures) in (
+    let at-is-break : tie.After-is-break Inv-loop μ-loop = search in
+    let in-loop : tie.In-loop Inv-loop μ-loop = search in
+    let at-loop : tie.At-loop Inv-loop μ-loop = search in
+    let at-start : tie.Start Inv-loop μ-loop = search in
+    let few = lines-few (at-start .pre .0) (at-loop .loop .inv .5) (in-loop .loop-test .taken) (at-start .pre .1 .1) (at-is-break .is-break .ensures) (c .before .before .put-piece .ensures) in (
       refl,
       omega (arith, appended-long (c .before .before .put-piece .ensures)),
       omega arith,
       omega arith,
       omega arith,
-      lines-more (s .pre .0) (l .loop .inv .5) (c .before .before .before .before .before .before .before .before .loop-test .taken) (s .pre .1 .1) (c .before .before .before .before .before .is-break .ensures) (c .before .before .put-piece .ensures),
+      lines-more (at-start .pre .0) (at-loop .loop .inv .5) (in-loop .loop-test .taken) (at-start .pre .1 .1) (at-is-break .is-break .ensures) (c .before .before .put-piece .ensures),
     )
 
 same-length : tie.Need-same-length Inv-loop μ-loop
@@ -83,17 +63,17 @@ put-lines-spec =
     (tie.spec
     Inv-loop
     μ-loop
-    add-end
+    (λ c. omega arith)
     loop-holds
-    sub-is-break
-    part-is-break-start
-    part-is-break-end
+    (λ c. omega arith)
+    (λ c. omega arith)
+    (λ c. omega arith)
     is-break-requires
-    add-b
-    slice-read-b
+    (λ c. omega arith)
+    (λ c. omega arith)
     put-piece-requires
-    add-i
-    loop-less
+    (λ c. omega arith)
+    (λ c. omega arith)
     loop-again
     same-length
     returns)

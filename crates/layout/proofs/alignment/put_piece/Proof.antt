@@ -9,16 +9,16 @@ put-requires : tie.Need-put-requires
 put-requires c κs = let r = c .before .before .pre in record { region = r .region; small = omega arith }
 
 put-requires-2 : tie.Need-put-requires-2
-put-requires-2 c κs = room-left 1 (c .before .before .before .before .put .ensures) (c .before .before .before .before .before .before .before .pre)
-
-same-length : tie.Need-same-length
-same-length c = search needs
+put-requires-2 c κs =
+    let at-put : tie.After-put = search in
+    let at-start : tie.Start = search in
+    room-left 1 (at-put .put .ensures) (at-start .pre)
 
 returns : tie.Need-returns
-returns c = rw (c .before .before .before .before .if1 .taken) (appended-more (c .before .before .before .before .before .before .before .put .ensures) (c .before .before .put2 .ensures))
-
-same-length-2 : tie.Need-same-length-2
-same-length-2 c = search needs
+returns c =
+    let then1 : tie.Then1 = search in
+    let at-put : tie.After-put = search in
+    rw (then1 .if1 .taken) (appended-more (at-put .put .ensures) (c .before .before .put2 .ensures))
 
 returns-2 : tie.Need-returns-2
 returns-2 c = rw (c .if1 .left) (c .before .before .before .put .ensures)
@@ -29,7 +29,7 @@ put-piece-spec =
     (tie.spec
     put-requires
     put-requires-2
-    same-length
+    (λ c. search needs)
     returns
-    same-length-2
+    (λ c. search needs)
     returns-2)

@@ -10,28 +10,14 @@ use borrow.Author.Needs.{needs}
 use Rattle.layout.proofs.alignment.trimmed.Statement.{statement}
 use Rattle.layout.proofs.alignment.trimmed.Tie as tie
 
-skip-requires : tie.Need-skip-requires
-skip-requires c κs = search needs
-
-sub-start : tie.Need-sub-start
-sub-start c = omega arith
-
-sub-start-2 : tie.Need-sub-start-2
-sub-start-2 c = omega arith
-
-trim-requires : tie.Need-trim-requires
-trim-requires c κs = search needs
-
-sub-end : tie.Need-sub-end
-sub-end c = omega arith
-
 -- the places by the lengths
 places :
     (c : tie.After-struct-known2)
-    → (let n = length (c .before .before .before .before .before .args .s .now) in let a = c .before .before .before .skip .result in let k = c .before .trim .result in
-    Trimmed (c .before .before .before .before .before .args .s .now) (record { start = n - (a .end - a .start); end = n - (a .end - a .start) + (k .end - k .start) }))
+    → (let at-start : tie.Start = search in let n = length (at-start .args .s .now) in let a = c .before .before .before .skip .result in let k = c .before .trim .result in
+    Trimmed (at-start .args .s .now) (record { start = n - (a .end - a .start); end = n - (a .end - a .start) + (k .end - k .start) }))
 places c =
-    let s = c .before .before .before .before .before .args .s .now in
+    let at-start : tie.Start = search in
+    let s = at-start .args .s .now in
     let a = c .before .before .before .skip .result in let k = c .before .trim .result in
     let f = c .before .before .before .skip .ensures in let g = c .before .trim .ensures in
     trimmed-by s (a .end - a .start) (k .end - k .start) _ _
@@ -49,10 +35,10 @@ pub trimmed-spec : {M : Type 1} → statement M
 trimmed-spec =
     tie.close
     (tie.spec
-    skip-requires
-    sub-start
-    sub-start-2
-    trim-requires
-    sub-end
+    (λ c κs. search needs)
+    (λ c. omega arith)
+    (λ c. omega arith)
+    (λ c κs. search needs)
+    (λ c. omega arith)
     add-end
     returns)

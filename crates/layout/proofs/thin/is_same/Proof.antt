@@ -8,16 +8,15 @@ use Rattle.layout.proofs.thin.is_same.Tie as tie
 returns : tie.Need-returns
 returns c = let a = c .before .before .before .args in sym (same-long (a .a .now) (a .b .now) (c .if1 .taken))
 
-starts-with-requires : tie.Need-starts-with-requires
-starts-with-requires c κs = search needs
-
 returns-2 : tie.Need-returns-2
-returns-2 c = let a = c .before .before .before .before .args in c .starts-with .ensures ∙ same-starts (a .a .now) (a .b .now) (c .before .if1 .left)
+returns-2 c =
+    let at-start : tie.Start = search in
+    let a = at-start .args in c .starts-with .ensures ∙ same-starts (a .a .now) (a .b .now) (c .before .if1 .left)
 
 pub is-same-spec : {M : Type 1} → statement M
 is-same-spec =
     tie.close
     (tie.spec
     returns
-    starts-with-requires
+    (λ c κs. search needs)
     returns-2)

@@ -12,20 +12,13 @@ use borrow.Author.Needs.{needs}
 use Rattle.layout.proofs.thin.keeps_gap.Statement.{statement}
 use Rattle.layout.proofs.thin.keeps_gap.Tie as tie
 
-last-backslash-requires : tie.Need-last-backslash-requires
-last-backslash-requires c κs = search needs
-
-enum-known-k : tie.Need-enum-known-k
-enum-known-k c = search needs
-
-enum-told : tie.Need-enum-told
-enum-told c = search needs
-
 returns : tie.Need-returns
-returns c = gap-none (c .before .before .before .before .args .s .now) (c .before .before .last-backslash .ensures) (c .enum-told .given .1)
+returns c =
+    let at-start : tie.Start = search in
+    gap-none (at-start .args .s .now) (c .before .before .last-backslash .ensures) (c .enum-told .given .1)
 
 -- the backslash stands in the text
-fits : (c : tie.After-known-told) → c .before .k .given .0 .0 + 1 ≤ length (c .before .before .before .before .before .args .s .now)
+fits : (c : tie.After-known-told) → (let at-start : tie.Start = search in c .before .k .given .0 .0 + 1 ≤ length (at-start .args .s .now))
 fits c = let q = ap reach (c .before .k .given .1) in let w = c .before .before .before .last-backslash .ensures .within in omega arith
 
 add-behind : tie.Need-add-behind
@@ -37,29 +30,25 @@ sub-is-spacing c = fits c
 part-is-spacing-start : tie.Need-part-is-spacing-start
 part-is-spacing-start c = fits c
 
-part-is-spacing-end : tie.Need-part-is-spacing-end
-part-is-spacing-end c = omega arith
-
-is-spacing-requires : tie.Need-is-spacing-requires
-is-spacing-requires c κs = search needs
-
 returns-2 : tie.Need-returns-2
 returns-2 c =
-    let s = c .before .before .before .before .before .before .before .args .s .now in
-    gap-found s (c .before .before .before .before .before .last-backslash .ensures) (c .before .before .before .k .given .1)
+    let at-last-backslash : tie.After-last-backslash = search in
+    let at-start : tie.Start = search in
+    let s = at-start .args .s .now in
+    gap-found s (at-last-backslash .last-backslash .ensures) (c .before .before .before .k .given .1)
     ∙ ap (λ b. gapIf (not b)) (sym (c .is-spacing .ensures ∙ ap spacing (rest-of (c .before .before .before .k .given .0 .0 + 1) s)))
 
 pub keeps-gap-spec : {M : Type 1} → statement M
 keeps-gap-spec =
     tie.close
     (tie.spec
-    last-backslash-requires
-    enum-known-k
-    enum-told
+    (λ c κs. search needs)
+    (λ c. search needs)
+    (λ c. search needs)
     returns
     add-behind
     sub-is-spacing
     part-is-spacing-start
-    part-is-spacing-end
-    is-spacing-requires
+    (λ c. omega arith)
+    (λ c κs. search needs)
     returns-2)

@@ -19,12 +19,6 @@ abbrev μ-loop : tie.MeasureT-loop
 loop-holds : tie.Need-loop-holds Inv-loop μ-loop
 loop-holds c = (omega arith, ap (dropWhile other) (sym (all-passed (c .args .s .now))))
 
-sub-at : tie.Need-sub-at Inv-loop μ-loop
-sub-at c = omega arith
-
-shared-slice-read-if1 : tie.Need-shared-slice-read-if1 Inv-loop μ-loop
-shared-slice-read-if1 c = omega arith
-
 -- the place is behind the symbol that is looked at
 stepped : (c : tie.After-shared-slice-known Inv-loop μ-loop)
     → (let l = c .before .before in let s = l .before .args .s .now in dropWhile other (reverse s) ≡ dropWhile other (passed-by s (l .loop .i - 1 + 1)))
@@ -35,16 +29,15 @@ stepped c =
 
 returns : tie.Need-returns Inv-loop μ-loop
 returns c =
+    let at-start : tie.Start Inv-loop μ-loop = search in
     let l = c .before .before .before in
-    record { within = omega arith; found = stepped (c .before) ∙ back-found (l .before .args .s .now) (l .loop .i - 1) (omega arith) (c .if1 .taken) }
-
-loop-less : tie.Need-loop-less Inv-loop μ-loop
-loop-less c = omega arith
+    record { within = omega arith; found = stepped (c .before) ∙ back-found (at-start .args .s .now) (l .loop .i - 1) (omega arith) (c .if1 .taken) }
 
 loop-again : tie.Need-loop-again Inv-loop μ-loop
 loop-again c =
+    let at-start : tie.Start Inv-loop μ-loop = search in
     let l = c .before .before .before in
-    (omega arith, stepped (c .before) ∙ back-past (l .before .args .s .now) (l .loop .i - 1) (omega arith) (c .if1 .left))
+    (omega arith, stepped (c .before) ∙ back-past (at-start .args .s .now) (l .loop .i - 1) (omega arith) (c .if1 .left))
 
 returns-2 : tie.Need-returns-2 Inv-loop μ-loop
 returns-2 c =
@@ -59,9 +52,9 @@ last-backslash-spec =
     Inv-loop
     μ-loop
     loop-holds
-    sub-at
-    shared-slice-read-if1
+    (λ c. omega arith)
+    (λ c. omega arith)
     returns
-    loop-less
+    (λ c. omega arith)
     loop-again
     returns-2)

@@ -19,31 +19,21 @@ abbrev μ-loop : tie.MeasureT-loop
 loop-holds : tie.Need-loop-holds Inv-loop μ-loop
 loop-holds c = (omega arith, refl)
 
-shared-slice-read-is-letter : tie.Need-shared-slice-read-is-letter Inv-loop μ-loop
-shared-slice-read-is-letter c = omega arith
-
-is-letter-requires : tie.Need-is-letter-requires Inv-loop μ-loop
-is-letter-requires c κs = search needs
-
 returns : tie.Need-returns Inv-loop μ-loop
 returns c =
-    let l = c .before .before .before .before in
-    let a = l .before .before .args in
+    let at-loop : tie.At-loop Inv-loop μ-loop = search in
+    let at-start : tie.Start Inv-loop μ-loop = search in
+    let a = at-start .args in
     let other = sym (c .before .is-letter .ensures) ∙ not-true _ (c .if1 .taken) in
-    record { to = omega arith; rest = l .loop .inv .1 ∙ letters-stop (a .s .now) (l .loop .end) (omega arith) other }
-
-add-end : tie.Need-add-end Inv-loop μ-loop
-add-end c = omega arith
-
-loop-less : tie.Need-loop-less Inv-loop μ-loop
-loop-less c = omega arith
+    record { to = omega arith; rest = at-loop .loop .inv .1 ∙ letters-stop (a .s .now) (at-loop .loop .end) (omega arith) other }
 
 loop-again : tie.Need-loop-again Inv-loop μ-loop
 loop-again c =
-    let l = c .before .before .before .before in
-    let a = l .before .before .args in
+    let at-loop : tie.At-loop Inv-loop μ-loop = search in
+    let at-start : tie.Start Inv-loop μ-loop = search in
+    let a = at-start .args in
     let same = sym (c .before .is-letter .ensures) ∙ not-false _ (c .if1 .left) in
-    (omega arith, l .loop .inv .1 ∙ letters-more (a .s .now) (l .loop .end) (omega arith) same)
+    (omega arith, at-loop .loop .inv .1 ∙ letters-more (a .s .now) (at-loop .loop .end) (omega arith) same)
 
 returns-2 : tie.Need-returns-2 Inv-loop μ-loop
 returns-2 c =
@@ -58,10 +48,10 @@ letters-spec =
     Inv-loop
     μ-loop
     loop-holds
-    shared-slice-read-is-letter
-    is-letter-requires
+    (λ c. omega arith)
+    (λ c κs. search needs)
     returns
-    add-end
-    loop-less
+    (λ c. omega arith)
+    (λ c. omega arith)
     loop-again
     returns-2)

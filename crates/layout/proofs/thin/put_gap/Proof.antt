@@ -4,17 +4,10 @@ use borrow.Author.Needs.{needs}
 use Rattle.layout.proofs.thin.put_gap.Statement.{statement}
 use Rattle.layout.proofs.thin.put_gap.Tie as tie
 
-slice-aggregate-put-all : tie.Need-slice-aggregate-put-all
-slice-aggregate-put-all c = search needs
-
-put-all-requires : tie.Need-put-all-requires
-put-all-requires c κs = search needs
-
-same-length : tie.Need-same-length
-same-length c = search needs
-
 returns : tie.Need-returns
-returns c = rw (c .before .before .before .before .before .if1 .taken) (c .before .before .put-all .ensures)
+returns c =
+    let then1 : tie.Then1 = search in
+    rw (then1 .if1 .taken) (c .before .before .put-all .ensures)
 
 returns-2 : tie.Need-returns-2
 returns-2 c = rw (c .if1 .left) (appended-none _ _ _ _)
@@ -23,8 +16,8 @@ pub put-gap-spec : {M : Type 1} → statement M
 put-gap-spec =
     tie.close
     (tie.spec
-    slice-aggregate-put-all
-    put-all-requires
-    same-length
+    (λ c. search needs)
+    (λ c κs. search needs)
+    (λ c. search needs)
     returns
     returns-2)

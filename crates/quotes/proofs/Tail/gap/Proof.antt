@@ -3,11 +3,8 @@ use borrow.Author.Needs.{needs}
 use Rattle.quotes.proofs.Tail.gap.Statement.{statement}
 use Rattle.quotes.proofs.Tail.gap.Tie as tie
 
-is-alnum-requires : tie.Need-is-alnum-requires
-is-alnum-requires c κs = search needs
-
 returns : tie.Need-returns
 returns c = rw (c .is-alnum .ensures)
 
 pub gap-spec : {M : Type 1} → statement M
-gap-spec = tie.close (tie.spec is-alnum-requires returns)
+gap-spec = tie.close (tie.spec (λ c κs. search needs) returns)

@@ -15,41 +15,29 @@ sub-find-matching-paren c = let s = c .before .before in starts-long (s .args .p
 part-find-matching-paren-start : tie.Need-part-find-matching-paren-start
 part-find-matching-paren-start c = let s = c .before .before in starts-long (s .args .pattern .now) (s .args .s .now) (s .pre .starts-with)
 
-part-find-matching-paren-end : tie.Need-part-find-matching-paren-end
-part-find-matching-paren-end c = omega arith
-
-find-matching-paren-requires : tie.Need-find-matching-paren-requires
-find-matching-paren-requires c κs = search needs
-
-enum-known-k : tie.Need-enum-known-k
-enum-known-k c = search needs
-
-enum-told : tie.Need-enum-told
-enum-told c = search needs
-
 returns : tie.Need-returns
 returns c =
-    let s = c .before .before .before .before .before .before in
-    λ left. paren-open (s .pre) left (closes-rest (s .args .s .now) (length (s .args .pattern .now)) findMatchingParen (c .before .before .find-matching-paren .ensures)) (c .enum-told .given .1)
+    let at-start : tie.Start = search in
+    λ left. paren-open (at-start .pre) left (closes-rest (at-start .args .s .now) (length (at-start .args .pattern .now)) findMatchingParen (c .before .before .find-matching-paren .ensures)) (c .enum-told .given .1)
 
 add-close : tie.Need-add-close
 add-close c =
-    let s = c .before .before .before .before .before .before .before in
-    let w = closes-within (closes-rest (s .args .s .now) (length (s .args .pattern .now)) findMatchingParen (c .before .before .before .find-matching-paren .ensures)) (c .before .k .given .1) in
-    let l = length-drop (length (s .args .pattern .now)) (s .args .s .now) in
+    let at-start : tie.Start = search in
+    let w = closes-within (closes-rest (at-start .args .s .now) (length (at-start .args .pattern .now)) findMatchingParen (c .before .before .before .find-matching-paren .ensures)) (c .before .k .given .1) in
+    let l = length-drop (length (at-start .args .pattern .now)) (at-start .args .s .now) in
     omega arith
 
 add-t8 : tie.Need-add-t8
 add-t8 c =
-    let s = c .before .before .before .before .before .before .before in
-    let w = closes-within (closes-rest (s .args .s .now) (length (s .args .pattern .now)) findMatchingParen (c .before .before .before .find-matching-paren .ensures)) (c .before .k .given .1) in
-    let l = length-drop (length (s .args .pattern .now)) (s .args .s .now) in
+    let at-start : tie.Start = search in
+    let w = closes-within (closes-rest (at-start .args .s .now) (length (at-start .args .pattern .now)) findMatchingParen (c .before .before .before .find-matching-paren .ensures)) (c .before .k .given .1) in
+    let l = length-drop (length (at-start .args .pattern .now)) (at-start .args .s .now) in
     omega arith
 
 returns-2 : tie.Need-returns-2
 returns-2 c =
-    let s = c .before .before .before .before .before .before .before in
-    λ left. paren-closed (s .pre) left (closes-rest (s .args .s .now) (length (s .args .pattern .now)) findMatchingParen (c .before .before .before .find-matching-paren .ensures)) (c .before .k .given .1)
+    let at-start : tie.Start = search in
+    λ left. paren-closed (at-start .pre) left (closes-rest (at-start .args .s .now) (length (at-start .args .pattern .now)) findMatchingParen (c .before .before .before .find-matching-paren .ensures)) (c .before .k .given .1)
 
 pub paren-to-brace-spec : {M : Type 1} → statement M
 paren-to-brace-spec =
@@ -57,10 +45,10 @@ paren-to-brace-spec =
     (tie.spec
     sub-find-matching-paren
     part-find-matching-paren-start
-    part-find-matching-paren-end
-    find-matching-paren-requires
-    enum-known-k
-    enum-told
+    (λ c. omega arith)
+    (λ c κs. search needs)
+    (λ c. search needs)
+    (λ c. search needs)
     returns
     add-close
     add-t8

@@ -11,10 +11,14 @@ ident-end-requires c κs =
     let l = starts-long (s .args .pattern .now) (s .args .s .now) (s .pre .starts-with) in omega arith
 
 returns : tie.Need-returns
-returns c = λ left. ident-wrapped (c .before .before .before .before .pre) left (c .before .ident-end .ensures) (omega arith)
+returns c =
+    let at-start : tie.Start = search in
+    λ left. ident-wrapped (at-start .pre) left (c .before .ident-end .ensures) (omega arith)
 
 returns-2 : tie.Need-returns-2
-returns-2 c = λ left. ident-short (c .before .before .before .before .pre) left (c .before .ident-end .ensures) (omega arith)
+returns-2 c =
+    let at-start : tie.Start = search in
+    λ left. ident-short (at-start .pre) left (c .before .ident-end .ensures) (omega arith)
 
 pub wrap-multichar-spec : {M : Type 1} → statement M
 wrap-multichar-spec =
