@@ -16,7 +16,8 @@ use Rattle.spec.specs.Laws.Symbols.{starts-long, find-starts}
 use Rattle.search.specs.Search.{Finds, finds-at, finds-nothing}
 use Rattle.search.specs.declared.Found.{Found}
 use Rattle.search.specs.declared.Found.the-variants.{At, Nothing}
-use Rattle.operands.specs.Places.{Place, Ahead}
+use Rattle.symbols.specs.Places.{Ahead}
+use Rattle.operands.specs.Places.{Place}
 
 -- ---- a symbol is looked for as a pattern of one symbol
 abbrev pub isSome : Option (List ℕ) → Bool

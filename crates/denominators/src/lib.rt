@@ -1,4 +1,4 @@
-// What is read after a slash: the blanks and the denominator (find_fraction_part_after). The Rust counts bytes of the jump from
+// What is read after a slash: the denominator (find_fraction_part_after). The Rust counts bytes of the jump from
 // `\lvert` to `\rvert` where it should count symbols, which number 9 is for: `is_barred` says where it is met.
 mod past;
 
@@ -8,7 +8,6 @@ use past::past_braces;
 use past::past_bracket;
 use past::past_factorials;
 use past::past_power;
-pub use past::skip_blanks;
 use past::word_after;
 use search::Found;
 ghost use mathlib.Core.Path.{_≡_};
@@ -18,12 +17,13 @@ ghost use lib.ListN.{drop};
 ghost use Rattle.spec.specs.Symbols.{any, ends, until, solidus};
 ghost use Rattle.spec.specs.Closing.{findMatchingParen};
 ghost use Rattle.spec.specs.Fractions.{grouped, rvertFrom, afterLvert, afterBrackets, barred, findFractionPartAfter};
-ghost use Rattle.operands.specs.Places.{Place, Ahead, FoundAhead};
+ghost use Rattle.symbols.specs.Places.{Ahead};
+ghost use Rattle.operands.specs.Places.{Place, FoundAhead};
 
 fn ends_with(s: &[u8], pattern: &[u8]) -> bool
     ensures { λ r. ⌜ r ≡ ends (now (pattern .entry)) (now (s .entry)) ⌝ }
 {
-    let start = text::pop(s.len(), pattern.len());
+    let start = text::saturating_sub(s.len(), pattern.len());
     search::starts_with(&s[start..], pattern)
 }
 

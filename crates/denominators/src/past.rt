@@ -1,39 +1,19 @@
-// The blanks before a denominator, and its pieces: each search passes one, if it is there.
+// The pieces of a denominator: each search passes one, if it is there.
 use operands::is_exponent_symbol;
 use operands::is_in_operand;
 use operands::past_group;
 use search::Found;
+use symbols::Class;
 ghost use lib.ListN.{drop};
-ghost use Rattle.spec.specs.Symbols.{trimStart};
 ghost use Rattle.spec.specs.Fractions.{factorials, exponent, power, braces, bracket, arguments, wordAfter};
-ghost use Rattle.operands.specs.Places.{Place, Ahead, FoundAhead};
-
-pub fn skip_blanks(s: &[u8], start: usize) -> usize
-    requires { ⌜ Place (now s) start ⌝ }
-    ensures { λ r. ⌜ Ahead (now (s .entry)) start r (trimStart (drop start (now (s .entry)))) ⌝ }
-{
-    let mut i = start;
-    while i < s.len() {
-        if !symbols::is_blank(s[i]) {
-            return i;
-        }
-        i += 1;
-    }
-    i
-}
+ghost use Rattle.symbols.specs.Places.{Ahead};
+ghost use Rattle.operands.specs.Places.{Place, FoundAhead};
 
 pub fn past_factorials(s: &[u8], start: usize) -> usize
     requires { ⌜ Place (now s) start ⌝ }
     ensures { λ r. ⌜ Ahead (now (s .entry)) start r (factorials (drop start (now (s .entry)))) ⌝ }
 {
-    let mut i = start;
-    while i < s.len() {
-        if s[i] != b'!' {
-            return i;
-        }
-        i += 1;
-    }
-    i
+    symbols::run_end(s, start, Class::Only(b'!'))
 }
 
 // What follows a `^`: a group in braces, or one symbol.

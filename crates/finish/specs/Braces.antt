@@ -17,8 +17,9 @@ use Rattle.spec.specs.Finish.{groupsBehind, top, popped, brace, escapeBraces, e
 use Rattle.spec.specs.Laws.Symbols.{drop-step}
 use Rattle.symbols.specs.Parts.{part, length-part}
 use Rattle.text.specs.Writer.{Regions, Appended}
-use Rattle.text.specs.Filling.{Filling, filling-more, filling-source, filling-symbol, passed-by, passed-more, passed-head}
-use Rattle.closing.specs.Backward.{ClosesBack, back-at, back-within, back-nothing, head-before}
+use Rattle.text.specs.Filling.{Filling, filling-more, filling-source, filling-symbol}
+use Rattle.symbols.specs.Places.{head-before, before, before-next}
+use Rattle.closing.specs.Backward.{ClosesBack, back-at, back-within, back-nothing}
 use Rattle.search.specs.declared.Found.{Found}
 use Rattle.search.specs.declared.Found.the-variants.{At, Nothing}
 
@@ -31,11 +32,11 @@ unfoldable pub bareBehind : List ℕ → ℕ → Bool
 bareBehind p x = elim (is "{" x) [ true ↦ groupsBehind (head p) | false ↦ elim (is "}" x) [ true ↦ top (stackOf p) | false ↦ true ] ]
 
 abbrev pub bareAt : List ℕ → ℕ → Bool
-bareAt s i = bareBehind (passed-by s i) (getD s i 0)
+bareAt s i = bareBehind (before s i) (getD s i 0)
 
 -- what is written from place i on
 unfoldable pub braced : List ℕ → ℕ → List ℕ
-braced s i = escapeBraces (stackOf (passed-by s i)) (head (passed-by s i)) (drop i s)
+braced s i = escapeBraces (stackOf (before s i)) (head (before s i)) (drop i s)
 
 -- ---- one symbol
 escape-step : (p : List ℕ) (x : ℕ) (s : List ℕ) → escapeBraces (stackOf p) (head p) (x ∷ s) ≡ brace (bareBehind p x) x ++ escapeBraces (stackOf (x ∷ p)) x s
@@ -50,9 +51,9 @@ escape-step p x s = go (is "{" x) refl (is "}" x) refl
 pub braced-step : (s : List ℕ) (i : ℕ) → i < length s → braced s i ≡ brace (bareAt s i) (getD s i 0) ++ braced s (i + 1)
 unfolding braced
 braced-step s i h =
-    ap (escapeBraces (stackOf (passed-by s i)) (head (passed-by s i))) (drop-step s i h)
-    ∙ escape-step (passed-by s i) (getD s i 0) (drop (i + 1) s)
-    ∙ ap (λ p. brace (bareAt s i) (getD s i 0) ++ escapeBraces (stackOf p) (head p) (drop (i + 1) s)) (sym (passed-more s i h))
+    ap (escapeBraces (stackOf (before s i)) (head (before s i))) (drop-step s i h)
+    ∙ escape-step (before s i) (getD s i 0) (drop (i + 1) s)
+    ∙ ap (λ p. brace (bareAt s i) (getD s i 0) ++ escapeBraces (stackOf p) (head p) (drop (i + 1) s)) (sym (before-next s i h))
 
 pub braced-first : (s : List ℕ) → braced s 0 ≡ escapeSetBraces s
 unfolding braced escapeSetBraces stackOf
@@ -60,7 +61,7 @@ braced-first s = refl
 
 pub braced-end : (s : List ℕ) (i : ℕ) → length s ≤ i → braced s i ≡ []
 unfolding braced escapeBraces
-braced-end s i h = ap (escapeBraces (stackOf (passed-by s i)) (head (passed-by s i))) (drop-of-length-le s h)
+braced-end s i h = ap (escapeBraces (stackOf (before s i)) (head (before s i))) (drop-of-length-le s h)
 
 -- ---- the last open brace is the one that closes the symbols passed, read backwards
 abbrev pub grouped : Option (List ℕ) → Bool
@@ -96,11 +97,11 @@ module _ (s : List ℕ) {r : Found} (back : ClosesBack s r (close 125 123 0 (rev
 module _ (s : List ℕ) (i : ℕ) (within : i ≤ length s) where
   pub bare-opener : getD s i 0 ≡ 123 → bareAt s i ≡ groupsBehind (getD (0 ∷ s) i 0)
   unfolding bareBehind
-  bare-opener e = ap (bareBehind (passed-by s i)) e ∙ ap groupsBehind (passed-head s i within)
+  bare-opener e = ap (bareBehind (before s i)) e ∙ ap groupsBehind (head-before s i within)
 
   pub bare-closer : getD s i 0 ≡ 125 → bareAt s i ≡ top (stackOf (reverse (part 0 (i - 0) s)))
   unfolding bareBehind
-  bare-closer e = let z : i ≡ i - 0 = omega arith in ap (bareBehind (passed-by s i)) e ∙ ap (λ k. top (stackOf (passed-by s k))) z
+  bare-closer e = let z : i ≡ i - 0 = omega arith in ap (bareBehind (before s i)) e ∙ ap (λ k. top (stackOf (before s k))) z
 
   pub bare-other : (getD s i 0 ≡ 123 → ⊥) → (getD s i 0 ≡ 125 → ⊥) → bareAt s i ≡ true
   unfolding bareBehind

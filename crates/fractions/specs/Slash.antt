@@ -27,9 +27,9 @@ use Rattle.spec.specs.Fractions.{
 }
 use Rattle.symbols.specs.Parts.{part, drop-take}
 use Rattle.symbols.specs.Trim.{spanned}
-use Rattle.closing.specs.Backward.{before, length-before}
+use Rattle.symbols.specs.Places.{before, length-before, Ahead, Behind}
 use Rattle.denominators.specs.Ends.{take-drop}
-use Rattle.operands.specs.Places.{Ahead, Behind, until-ahead}
+use Rattle.operands.specs.Places.{until-ahead}
 use Rattle.fractions.specs.declared.Operands.{Operands}
 use Rattle.fractions.specs.declared.Slash.{Slash}
 use Rattle.fractions.specs.declared.Slash.the-variants.{Converts, Stays, Barred}

@@ -18,9 +18,8 @@ use Rattle.spec.specs.Laws.Symbols.{drop-step}
 use Rattle.symbols.specs.Parts.{part, whole-part}
 use Rattle.text.specs.Writer.{Appended, Regions}
 use Rattle.text.specs.Written.{Wrote, Writing, writing-none, writing-more, writing-less, wrote-less, wrote-apart, wrote-read}
-use Rattle.closing.specs.Backward.{before, before-next}
+use Rattle.symbols.specs.Places.{before, before-next, drop-none}
 use Rattle.denominators.specs.Ends.{take-drop}
-use Rattle.operands.specs.Places.{drop-none}
 use Rattle.fractions.specs.declared.Operands.{Operands}
 use Rattle.fractions.specs.declared.Slash.{Slash}
 use Rattle.fractions.specs.declared.Slash.the-variants as Slash

@@ -2,6 +2,7 @@
 use super::Operands;
 use super::Slash;
 use search::Found;
+use symbols::Class;
 use symbols::Span;
 ghost use Prim.Native.Nat.{_<_};
 ghost use lib.ListN.{length};
@@ -17,11 +18,11 @@ pub fn slash_at(s: &[u8], i: usize) -> Slash
     if numerators::is_inside_subscript_context(s, i) {
         return Slash::Stays;
     }
-    let over = numerators::skip_blanks_back(s, i);
+    let over = symbols::run_start(s, i, Class::Blank);
     let Found::At(start) = numerators::find_fraction_part_before(s, over) else {
         return Slash::Stays;
     };
-    let under = denominators::skip_blanks(s, i + 1);
+    let under = symbols::run_end(s, i + 1, Class::Blank);
     if denominators::is_barred(s, under) {
         return Slash::Barred;
     }

@@ -61,7 +61,7 @@ pub fn put_converted(
     requires { ⌜ Ordered n i f ⌝ }
     ensures { λ r. ⌜ Appended (now (work .entry)) (now (work .exit)) to 8192 (count - (i - f .num .start)) r (fraction f (part from n (now (work .entry)))) ⌝ }
 {
-    let left = text::pop(count, i - f.num.start);
+    let left = text::saturating_sub(count, i - f.num.start);
     let num = Span {
         start: from + f.num.start,
         end: from + f.num.end,

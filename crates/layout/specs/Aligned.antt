@@ -14,11 +14,11 @@ use Rattle.spec.specs.Finish.{hasAlignment, hasLineBreaks, lineBreaks, aligned,
 use Rattle.spec.specs.Laws.Symbols.{drop-step, head-drop}
 use Rattle.symbols.specs.Parts.{part, length-part, whole-part}
 use Rattle.text.specs.Writer.{Regions, Appended, appended-more}
-use Rattle.text.specs.Filling.{Filling, filling-more, filling-source, filling-symbol, passed-by, passed-more}
+use Rattle.symbols.specs.Places.{before, before-all, before-next}
+use Rattle.text.specs.Filling.{Filling, filling-more, filling-source, filling-symbol}
 use Rattle.symbols.specs.declared.Span.{Span}
 use Rattle.layout.specs.Breaks.{breakAt, piece, lined, lined-all, lines-broken}
 use Rattle.layout.specs.Lines.{Trimmed, trim-broken}
-use Rattle.layout.specs.Thin.{all-passed}
 
 -- ---- what is written from place i on
 unfoldable pub linedTo : List ℕ → ℕ → ℕ → List ℕ
@@ -65,10 +65,10 @@ ends-is s h =
     let n = length s in
     let a : n ≡ n - 1 + 1 = omega arith in
     let b : n - 1 ≡ n - 2 + 1 = omega arith in
-    let all : passed-by s (n - 1 + 1) ≡ reverse s = ap (passed-by s) (sym a) ∙ all-passed s in
-    let two : reverse s ≡ getD s (n - 1) 0 ∷ getD s (n - 2) 0 ∷ passed-by s (n - 2) =
-    sym all ∙ passed-more s (n - 1) (omega arith)
-    ∙ ap (λ t. getD s (n - 1) 0 ∷ t) (ap (passed-by s) b ∙ passed-more s (n - 2) (omega arith))
+    let all : before s (n - 1 + 1) ≡ reverse s = ap (before s) (sym a) ∙ before-all s in
+    let two : reverse s ≡ getD s (n - 1) 0 ∷ getD s (n - 2) 0 ∷ before s (n - 2) =
+    sym all ∙ before-next s (n - 1) (omega arith)
+    ∙ ap (λ t. getD s (n - 1) 0 ∷ t) (ap (before s) b ∙ before-next s (n - 2) (omega arith))
     in
     sym (ap (starts (92 ∷ 32 ∷ [])) two)
 

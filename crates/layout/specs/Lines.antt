@@ -8,9 +8,11 @@ use mathlib.Core.List.{List, [], _∷_, _++_, reverse, reverse-cons, reverse-app
 use Prim.Native.Nat.{ℕ, zero, suc, _+_, _-_, _≤_}
 use native.Mathlib.Nat.{not-suc-le-zero}
 use native.Mathlib.Omega.{arith}
-use lib.ListN.{length, getD, take, drop, length-take, length-drop}
+use lib.ListN.{length, getD, drop, length-take, length-drop}
 use borrow.Author.Tests.{eqb-true}
 use Rattle.spec.specs.Symbols.{is, blank, head, empty, dropWhile, dropWhileEnd, trim}
+use Rattle.symbols.specs.Places.{before, Ahead, Behind}
+use Rattle.symbols.specs.Runs.{behind-end}
 use Rattle.symbols.specs.declared.Span.{Span}
 use Rattle.layout.specs.Breaks.{breaks, piece, broken, lined}
 
@@ -53,29 +55,12 @@ module _ (f : ℕ → Bool) where
   drop-end [] = refl
   drop-end (x ∷ s) = ap (λ t. reverse (dropWhile f t)) (reverse-cons x s) ∙ end-snoc (reverse s) x ∙ ap (endWith x) (drop-end s)
 
-  end-take : (s : List ℕ) → dropEnd s ≡ take (length (dropEnd s)) s
-  end-take [] = refl
-  end-take (x ∷ s) = go (dropEnd s) (end-take s)
-    where
-      go : (r : List ℕ) → r ≡ take (length r) s → endWith x r ≡ take (length (endWith x r)) (x ∷ s)
-      go [] e = one (f x)
-        where
-          one : (t : Bool) → _≡_ {A = List ℕ} (elim t [ true ↦ [] | false ↦ x ∷ [] ]) (take (length {A = ℕ} (elim t [ true ↦ [] | false ↦ x ∷ [] ])) (x ∷ s))
-          one true = refl
-          one false = refl
-      go (y ∷ r) e = ap (λ t. x ∷ t) e
-
-  pub end-short : (s : List ℕ) → length (dropWhileEnd f s) ≤ length s
-  end-short s =
-      let e = ap length (drop-end s) in let t = ap length (end-take s) in let l = length-take (length (dropEnd s)) s in omega arith
-
   while-stop : (x : ℕ) (s : List ℕ) → f x ≡ false → dropWhile f (x ∷ s) ≡ x ∷ s
   while-stop x s e = rw (e, dropWhile)
 
   while-past : (x : ℕ) (s : List ℕ) → f x ≡ true → dropWhile f (x ∷ s) ≡ dropWhile f s
   while-past x s e = rw (e, dropWhile)
 
-  -- what is left says how much has been dropped
   while-short : (s : List ℕ) → length (dropWhile f s) ≤ length s
   while-short [] = omega arith
   while-short (x ∷ s) = go (f x) (while-short s)
@@ -84,15 +69,6 @@ module _ (f : ℕ → Bool) where
       go true h = omega arith
       go false h = omega arith
 
-  pub while-drop : (s : List ℕ) → dropWhile f s ≡ drop (length s - length (dropWhile f s)) s
-  while-drop [] = refl
-  while-drop (x ∷ s) = go (f x) (while-drop s) (while-short s)
-    where
-      go : (t : Bool) → dropWhile f s ≡ drop (length s - length (dropWhile f s)) s → length (dropWhile f s) ≤ length s
-          → _≡_ {A = List ℕ} (elim t [ true ↦ dropWhile f s | false ↦ x ∷ s ]) (drop (suc (length s) - length {A = ℕ} (elim t [ true ↦ dropWhile f s | false ↦ x ∷ s ])) (x ∷ s))
-      go true e h = let n : suc (length s - length (dropWhile f s)) ≡ suc (length s) - length (dropWhile f s) = omega arith in e ∙ ap (λ k. drop k (x ∷ s)) n
-      go false e h = let n : 0 ≡ suc (length s) - suc (length s) = omega arith in ap (λ k. drop k (x ∷ s)) n
-
 -- ---- the places that trimming leaves
 pub record Trimmed (s : List ℕ) (r : Span) : Type 0 where
   pub order : r .start ≤ r .end
@@ -100,16 +76,13 @@ pub record Trimmed (s : List ℕ) (r : Span) : Type 0 where
   pub leading : dropWhile blank s ≡ drop (r .start) s
   pub many : length (dropWhileEnd blank (drop (r .start) s)) ≡ r .end - r .start
 
-pub trimmed-by :
-    (s : List ℕ) (a k start end : ℕ) → a ≡ length (dropWhile blank s) → k ≡ length (dropWhileEnd blank (dropWhile blank s))
-    → start ≡ length s - a → end ≡ start + k
-    → Trimmed s (record { start = start; end = end })
-trimmed-by s a k start end ea ek es ee =
-    let n : length s - length (dropWhile blank s) ≡ start = omega arith in
-    let lead : dropWhile blank s ≡ drop start s = while-drop blank s ∙ ap (λ m. drop m s) n in
-    let l = ap (λ t. length (dropWhileEnd blank t)) lead in
-    let short = end-short blank (drop start s) in let d = length-drop start s in let w = while-short blank s in
-    record { order = omega arith; inside = omega arith; leading = lead; many = omega arith }
+pub trimmed-by : {s : List ℕ} {start k : ℕ} → Ahead s 0 start (dropWhile blank s)
+    → Behind (drop start s) (length s - start) k (dropWhile blank (before (drop start s) (length s - start)))
+    → Trimmed s (record { start = start; end = start + k })
+trimmed-by {s} {start} {k} a b =
+    let w = a .within in let t = b .to in let d = length-drop start s in let l = length-take k (drop start s) in
+    let n = ap length (behind-end blank {s = drop start s} (sym d) b) in
+    record { order = omega arith; inside = omega arith; leading = sym (a .left); many = omega arith }
 
 -- ---- blanks are written as they are
 blank-single : (before x : ℕ) (s : List ℕ) → blank x ≡ true → breaks before x s ≡ false

@@ -1,6 +1,5 @@
 -- Thin spaces: what the code's searches say of the text since the last one, and the turns of the loop.
---     LastBackslash, Letters    the answers of the searches
---     thinned                   what is written from place i on, with the last thin space before `start`
+--     thinned    what is written from place i on, with the last thin space before `start`
 -- Assumes nothing.
 use mathlib.Core.Path.{_≡_, refl, sym, ap, ap₂, _∙_}
 use mathlib.Core.Bool.{Bool, true, false, not, cond, _&&_, _||_, and-comm}
@@ -11,55 +10,19 @@ use native.Mathlib.Nat.{not-suc-le-zero}
 use native.Mathlib.Omega.{arith}
 use lib.Dec.{eqb, ltb}
 use lib.ListN.{length, getD, take, drop, length-take, length-drop, length-reverse, drop-of-length-le, take-append-drop}
-use lib.Seq.{take-length, getD-drop, take-append-seam}
+use lib.Seq.{getD-drop, take-append-seam}
 use borrow.Author.Tests.{eqb-true, eqb-false, eq-eqb, ne-eqb, lt-ltb}
 use Rattle.spec.specs.Symbols.{bytes, is, letter, head, same, empty, until, dropWhile, starts, find}
 use Rattle.spec.specs.Finish.{atomCommands, oneOf, spacingCommand, spacing, gapFrom, gap, thinSpaces, dropThinSpaceAfterCommands}
 use Rattle.spec.specs.Laws.Symbols.{drop-step, starts-long}
 use Rattle.symbols.specs.Parts.{part, length-part, rest-part, getD-before, sub-part}
-use Rattle.search.specs.Search.{reach, until-drop}
+use Rattle.symbols.specs.Places.{before, before-all, before-step, length-before, Ahead, Behind, before-next, head-before}
+use Rattle.search.specs.Search.{until-drop}
 use Rattle.text.specs.Writer.{Regions, Appended, appended-part}
 use Rattle.text.specs.Sweep.{rest}
-use Rattle.text.specs.Filling.{Filling, filling-more, filling-symbol, passed-by, passed-more, passed-head}
+use Rattle.text.specs.Filling.{Filling, filling-more, filling-symbol}
 use Rattle.search.specs.declared.Found.{Found}
-use Rattle.search.specs.declared.Found.the-variants.{At, Nothing}
-
--- ---- the last backslash
-abbrev pub other : ℕ → Bool
-other x = not (is "\\" x)
-
-abbrev pub foundBack : List ℕ → Found → List ℕ
-foundBack s (At k) = passed-by s (k + 1)
-foundBack s Nothing = []
-
-pub record LastBackslash (s : List ℕ) (r : Found) : Type 0 where
-  pub within : reach r ≤ length s
-  pub found : dropWhile other (reverse s) ≡ foundBack s r
-
-pub all-passed : (s : List ℕ) → passed-by s (length s) ≡ reverse s
-all-passed s = ap reverse (take-length s)
-
-module _ (s : List ℕ) (i : ℕ) (within : i < length s) where
-  pub back-found : getD s i 0 ≡ 92 → dropWhile other (passed-by s (i + 1)) ≡ passed-by s (i + 1)
-  back-found e = ap (dropWhile other) (passed-more s i within ∙ ap (λ x. x ∷ passed-by s i) e) ∙ sym (passed-more s i within ∙ ap (λ x. x ∷ passed-by s i) e)
-
-  pub back-past : (getD s i 0 ≡ 92 → ⊥) → dropWhile other (passed-by s (i + 1)) ≡ dropWhile other (passed-by s i)
-  back-past e = ap (dropWhile other) (passed-more s i within) ∙ rw (ne-eqb (getD s i 0) 92 e, dropWhile)
-
--- ---- letters
-pub record Letters (s : List ℕ) (end : ℕ) : Type 0 where
-  pub to : end ≤ length s
-  pub rest : dropWhile letter s ≡ drop end s
-
-module _ (s : List ℕ) (end : ℕ) (within : end < length s) where
-  pub letters-more : letter (getD s end 0) ≡ true → dropWhile letter (drop end s) ≡ dropWhile letter (drop (end + 1) s)
-  letters-more t = ap (dropWhile letter) (drop-step s end within) ∙ rw (t, dropWhile)
-
-  pub letters-stop : letter (getD s end 0) ≡ false → dropWhile letter (drop end s) ≡ drop end s
-  letters-stop t = ap (dropWhile letter) (drop-step s end within) ∙ (rw (t, dropWhile) (sym (drop-step s end within)))
-
-pub letters-end : (s : List ℕ) (end : ℕ) → length s ≤ end → dropWhile letter (drop end s) ≡ drop end s
-letters-end s end h = ap (dropWhile letter) (drop-of-length-le s h) ∙ sym (drop-of-length-le s h)
+use Rattle.search.specs.declared.Found.the-variants.{Nothing}
 
 -- ---- equal texts
 eqb-comm : (x y : ℕ) → eqb x y ≡ eqb y x
@@ -94,18 +57,18 @@ argument-some [] e = absurd (e refl)
 argument-some (x ∷ s) e =
     ap (λ y. is "{" x && is "}" y)
     (getD-before (x ∷ s) (length (x ∷ s)) e
-    ∙ sym (passed-head (x ∷ s) (length (x ∷ s)) (omega arith))
-    ∙ ap head (all-passed (x ∷ s)))
+    ∙ sym (head-before (x ∷ s) (length (x ∷ s)) (omega arith))
+    ∙ ap head (before-all (x ∷ s)))
 
 word-some : (s : List ℕ) (end : ℕ) → end ≤ length s → not (empty (take end s)) ≡ ltb 0 end
 word-some s zero h = refl
 word-some [] (suc end) h = absurd (not-suc-le-zero h)
 word-some (x ∷ s) (suc end) h = sym (lt-ltb 0 (suc end) (omega arith))
 
-pub spacing-is : (s : List ℕ) {end : ℕ} → Letters s end → ltb 0 end && (argument (drop end s) && not (oneOf atomCommands (take end s))) ≡ spacing s
-spacing-is s {end} l =
-    let word : until s (dropWhile letter s) ≡ take end s = ap (until s) (l .rest) ∙ until-drop s end (l .to) in
-    sym (ap₂ spacingCommand word (l .rest) ∙ ap (λ b. b && (argument (drop end s) && not (oneOf atomCommands (take end s)))) (word-some s end (l .to)))
+pub spacing-is : {s : List ℕ} {end : ℕ} → Ahead s 0 end (dropWhile letter s) → ltb 0 end && (argument (drop end s) && not (oneOf atomCommands (take end s))) ≡ spacing s
+spacing-is {s} {end} l =
+    let word : until s (dropWhile letter s) ≡ take end s = ap (until s) (sym (l .left)) ∙ until-drop s end (l .within) in
+    sym (ap₂ spacingCommand word (sym (l .left)) ∙ ap (λ b. b && (argument (drop end s) && not (oneOf atomCommands (take end s)))) (word-some s end (l .within)))
 
 -- ---- the space that is kept or dropped
 abbrev pub gapIf : Bool → List ℕ
@@ -121,26 +84,28 @@ take-reverse s k h =
     ∙ ap (λ m. take m (reverse (drop k s) ++ reverse (take k s))) n
     ∙ take-append-seam (reverse (drop k s)) (reverse (take k s))
 
-pub gap-found : (s : List ℕ) {r : Found} {k : ℕ} → LastBackslash s r → r ≡ At k → gap (reverse s) ≡ gapIf (not (spacing (drop (k + 1) s)))
-gap-found s {k = k} f e =
-    let w = f .within in let q = ap reach e in
-    let h : k < length s = omega arith in
-    let lr = length-reverse s in let lp = length-reverse (take (k + 1) s) in let lt = length-take (k + 1) s in
-    let back : dropWhile other (reverse s) ≡ getD s k 0 ∷ passed-by s k = f .found ∙ ap (foundBack s) e ∙ passed-more s k h in
-    let many : length (reverse s) - length (getD s k 0 ∷ passed-by s k) ≡ length s - (k + 1) = (
-    let lq = ap length (passed-more s k h) in omega arith
-    ) in
-    ap (gapFrom (reverse s)) back
-    ∙ ap (λ t. cond (spacing (reverse t)) [] (bytes "\\;")) (ap (λ m. take m (reverse s)) many ∙ take-reverse s (k + 1) (omega arith))
-    ∙ ap (λ t. cond (spacing t) [] (bytes "\\;")) (reverse-reverse (drop (k + 1) s))
-    ∙ turned (spacing (drop (k + 1) s))
-  where
-    turned : (b : Bool) → cond b [] (bytes "\\;") ≡ gapIf (not b)
-    turned true = refl
-    turned false = refl
+-- the place behind the last backslash, or the start
+module _ {s : List ℕ} {r : ℕ} (last : Behind s (length s) r (dropWhile (λ x. not (is "\\" x)) (before s (length s)))) where
+  back : dropWhile (λ x. not (is "\\" x)) (reverse s) ≡ before s r
+  back = ap (dropWhile (λ x. not (is "\\" x))) (sym (before-all s)) ∙ sym (last .left)
 
-pub gap-none : (s : List ℕ) {r : Found} → LastBackslash s r → r ≡ Nothing → gap (reverse s) ≡ gapIf true
-gap-none s f e = ap (gapFrom (reverse s)) (f .found ∙ ap (foundBack s) e)
+  pub gap-found : 0 < r → gap (reverse s) ≡ gapIf (not (spacing (drop r s)))
+  gap-found positive =
+      let w = last .to in
+      let here = before-step s r positive w in
+      let lr = length-reverse s in let lb = length-before s r w in let lh = ap length here in
+      let many : length (reverse s) - length (getD s (r - 1) 0 ∷ before s (r - 1)) ≡ length s - r = omega arith in
+      ap (gapFrom (reverse s)) (back ∙ here)
+      ∙ ap (λ t. cond (spacing (reverse t)) [] (bytes "\\;")) (ap (λ m. take m (reverse s)) many ∙ take-reverse s r w)
+      ∙ ap (λ t. cond (spacing t) [] (bytes "\\;")) (reverse-reverse (drop r s))
+      ∙ turned (spacing (drop r s))
+    where
+      turned : (b : Bool) → cond b [] (bytes "\\;") ≡ gapIf (not b)
+      turned true = refl
+      turned false = refl
+
+  pub gap-none : r ≡ 0 → gap (reverse s) ≡ gapIf true
+  gap-none e = ap (gapFrom (reverse s)) (back ∙ ap (before s) e)
 
 -- ---- the loop
 unfoldable pub thinned : List ℕ → ℕ → ℕ → List ℕ
@@ -184,7 +149,7 @@ module _ (s : List ℕ) (start i : ℕ) (order : start ≤ i) (within : i < leng
       let n : i + 1 - start ≡ i - start + 1 = omega arith in
       let m : start + (i - start) ≡ i = omega arith in
       let one : reverse (part start (i + 1 - start) s) ≡ getD s i 0 ∷ p =
-      ap (λ k. reverse (part start k s)) n ∙ passed-more (drop start s) (i - start) (omega arith)
+      ap (λ k. reverse (part start k s)) n ∙ before-next (drop start s) (i - start) (omega arith)
       ∙ ap (λ x. x ∷ p) (getD-drop start s (i - start) 0 ∙ ap (λ k. getD s k 0) m)
       in
       ap (thinSpaces 0 p) (drop-step s i within)

@@ -86,16 +86,12 @@ fn put_lines(
     total
 }
 
-// The span without blanks at its ends. How much is left says where it begins and ends.
+// The span without blanks at its ends.
 fn trimmed(s: &[u8]) -> Span
     ensures { λ r. ⌜ Trimmed (now (s .entry)) r ⌝ }
 {
-    let n = s.len();
-    let whole = Span { start: 0, end: n };
-    let rest = symbols::skip(s, whole, Class::Blank);
-    let start = n - (rest.end - rest.start);
-    let kept = symbols::trim(s, whole, Class::Blank);
-    let end = start + (kept.end - kept.start);
+    let start = symbols::run_end(s, 0, Class::Blank);
+    let end = start + symbols::run_start(&s[start..], s.len() - start, Class::Blank);
     Span { start, end }
 }
 

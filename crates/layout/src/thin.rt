@@ -1,6 +1,7 @@
 // A thin space `\;` is dropped behind a control word, which carries its own spacing. Whether one stands there is told by the last
 // backslash since the thin space before; what was written since then is what was read.
 use search::Found;
+use symbols::Class;
 use text::Due;
 use text::Progress;
 ghost use mathlib.Core.Path.{_≡_};
@@ -11,35 +12,7 @@ ghost use Rattle.spec.specs.Finish.{atomCommands, oneOf, spacing, gap, dropThin
 ghost use Rattle.symbols.specs.Parts.{part};
 ghost use Rattle.text.specs.Writer.{Room, Appended, Regions};
 ghost use Rattle.text.specs.Stage.{Ready, Staged};
-ghost use Rattle.layout.specs.Thin.{LastBackslash, Letters, argument, gapIf};
-
-fn last_backslash(s: &[u8]) -> Found
-    ensures { λ r. ⌜ LastBackslash (now (s .entry)) r ⌝ }
-{
-    let mut i = s.len();
-    while 0 < i {
-        let at = i - 1;
-        if s[at] == b'\\' {
-            return Found::At(at);
-        }
-        i = at;
-    }
-    Found::Nothing
-}
-
-// How many letters the text begins with.
-fn letters(s: &[u8]) -> usize
-    ensures { λ r. ⌜ Letters (now (s .entry)) r ⌝ }
-{
-    let mut end = 0;
-    while end < s.len() {
-        if !symbols::is_letter(s[end]) {
-            return end;
-        }
-        end += 1;
-    }
-    end
-}
+ghost use Rattle.layout.specs.Thin.{argument, gapIf};
 
 fn is_same(a: &[u8], b: &[u8]) -> bool
     ensures { λ r. ⌜ r ≡ same (now (a .entry)) (now (b .entry)) ⌝ }
@@ -75,18 +48,18 @@ fn is_argument(tail: &[u8]) -> bool
 fn is_spacing(s: &[u8]) -> bool
     ensures { λ r. ⌜ r ≡ spacing (now (s .entry)) ⌝ }
 {
-    let end = letters(s);
+    let end = symbols::run_end(s, 0, Class::Letter);
     (0 < end) & (is_argument(&s[end..]) & !is_atom_command(&s[0..end]))
 }
 
-// Whether a thin space stays behind this text.
+// Whether a thin space stays behind this text: it is told by what stands behind the last backslash.
 fn keeps_gap(s: &[u8]) -> bool
     ensures { λ r. ⌜ gap (reverse (now (s .entry))) ≡ gapIf r ⌝ }
 {
-    let Found::At(k) = last_backslash(s) else {
+    let behind = symbols::run_start(s, s.len(), Class::Except(b'\\'));
+    if behind == 0 {
         return true;
-    };
-    let behind = k + 1;
+    }
     !is_spacing(&s[behind..])
 }
 

@@ -41,7 +41,7 @@ fn put_sized(work: &mut [u8], to: usize, count: usize, first: u8, inside: usize,
     requires { ⌜ Apart inside (k + 1) to 8192 ⌝ }
     ensures { λ r. ⌜ Appended (now (work .entry)) (now (work .exit)) to 8192 count r (sizedBy (part inside k (now (work .entry))) (delimiters first)) ⌝ }
 {
-    let middle = text::pop(k, 2);
+    let middle = text::saturating_sub(k, 2);
     if first == b'(' {
         return delimiters::put_call(work, to, count, b"\\left(", inside + 1, middle, b"\\right)");
     }

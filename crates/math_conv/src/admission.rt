@@ -1,5 +1,6 @@
 // Numbers 2, 1 and 3: whether a formula and its table are admitted.
 use super::output::copy_over;
+use symbols::Class;
 use text::Progress;
 use text::Refusal;
 ghost use mathlib.Core.Path.{_≡_};
@@ -30,10 +31,5 @@ pub fn admit(work: &mut [u8], formula: &[u8], table: &[u8]) -> Progress
 fn has_foreign(formula: &[u8]) -> bool
     ensures { λ r. ⌜ r ≡ any foreign (now (formula .entry)) ⌝ }
 {
-    for i in 0..formula.len() {
-        if symbols::is_foreign(formula[i]) {
-            return true;
-        }
-    }
-    false
+    !symbols::all_in(formula, Class::Formula)
 }

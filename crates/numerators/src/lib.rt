@@ -1,4 +1,4 @@
-// What is read before a slash: the blanks, the numerator (find_fraction_part_before), and whether a script holds the slash.
+// What is read before a slash: the numerator (find_fraction_part_before), and whether a script holds the slash.
 mod script;
 
 use operands::before_group;
@@ -9,25 +9,10 @@ pub use script::is_inside_subscript_context;
 use search::Found;
 ghost use Prim.Native.Nat.{_<_};
 ghost use lib.ListN.{length, getD};
-ghost use Rattle.spec.specs.Symbols.{trimStart};
 ghost use Rattle.spec.specs.Closing.{close};
 ghost use Rattle.spec.specs.Fractions.{nameBefore, wordBefore, withName, findFractionPartBefore};
-ghost use Rattle.closing.specs.Backward.{before};
-ghost use Rattle.operands.specs.Places.{Place, Behind, FoundBehind};
-
-pub fn skip_blanks_back(s: &[u8], end: usize) -> usize
-    requires { ⌜ Place (now s) end ⌝ }
-    ensures { λ r. ⌜ Behind (now (s .entry)) end r (trimStart (before (now (s .entry)) end)) ⌝ }
-{
-    let mut i = end;
-    while 0 < i {
-        if !symbols::is_blank(s[i - 1]) {
-            return i;
-        }
-        i -= 1;
-    }
-    i
-}
+ghost use Rattle.symbols.specs.Places.{before, Behind};
+ghost use Rattle.operands.specs.Places.{Place, FoundBehind};
 
 // The start of the name before a bracket, with its groups in braces.
 fn name_before(s: &[u8], end: usize) -> usize

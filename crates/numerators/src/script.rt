@@ -3,7 +3,7 @@ use closing::Tally;
 use operands::is_script_sign;
 ghost use mathlib.Core.Path.{_≡_};
 ghost use Rattle.spec.specs.Fractions.{scriptOpener, isInsideSubscriptContext};
-ghost use Rattle.closing.specs.Backward.{before};
+ghost use Rattle.symbols.specs.Places.{before};
 ghost use Rattle.operands.specs.Places.{Place};
 
 // Whether the parenthesis at `i` opens a script, or is the second that does.

@@ -1,4 +1,3 @@
 -- What the contracts of `operands` cite, and the laws that the searches on both sides of a slash share.
 pub mod Places
-pub mod Blanks
 pub mod Strip

@@ -1,7 +1,6 @@
 -- Places in a text. From place i the symbols ahead are `drop i s`, and those behind, nearest first, `before s i`.
 --     Place                        what a search asks
---     Ahead, Behind                what it ensures: the place that it comes to, and what is left over from there
---     FoundAhead, FoundBehind      the same of a search that may find nothing
+--     FoundAhead, FoundBehind      what it ensures, as `Ahead` and `Behind` do, where it may find nothing
 -- Assumes nothing.
 use mathlib.Core.Path.{_≡_, sym, ap, _∙_}
 use mathlib.Core.Bool.{Bool, true, false, false≢true}
@@ -9,7 +8,7 @@ use mathlib.Core.List.{List, [], _∷_, reverse}
 use mathlib.Core.Option.{Option, none, some}
 use Prim.Native.Nat.{ℕ, zero, suc, _+_, _-_, _≤_, _<_}
 use native.Mathlib.Omega.{arith}
-use lib.ListN.{length, getD, take, drop, length-take, length-drop, drop-of-length-le}
+use lib.ListN.{length, getD, take, drop, length-take, length-drop}
 use lib.Seq.{take-take, drop-drop}
 use Rattle.spec.specs.Symbols.{head, until}
 use Rattle.spec.specs.Closing.{orEnd}
@@ -18,21 +17,13 @@ use Rattle.symbols.specs.Parts.{part}
 use Rattle.search.specs.Search.{onward, reach, Closes, closes-at, closes-within}
 use Rattle.search.specs.declared.Found.{Found}
 use Rattle.search.specs.declared.Found.the-variants.{At, Nothing}
-use Rattle.closing.specs.Backward.{before, leftBefore, ClosesBack}
+use Rattle.symbols.specs.Places.{before, Ahead, Behind}
+use Rattle.closing.specs.Backward.{leftBefore, ClosesBack}
 
 -- a place in a text within number 5's limit
 pub record Place (s : List ℕ) (i : ℕ) : Type 0 where
   pub short : length s ≤ 8192
   pub within : i ≤ length s
-
-pub record Ahead (s : List ℕ) (start r : ℕ) (l : List ℕ) : Type 0 where
-  pub from : start ≤ r
-  pub within : r ≤ length s
-  pub left : drop r s ≡ l
-
-pub record Behind (s : List ℕ) (end r : ℕ) (l : List ℕ) : Type 0 where
-  pub to : r ≤ end
-  pub left : before s r ≡ l
 
 -- the place that was found, or where the search began
 abbrev pub reached : ℕ → Found → ℕ
@@ -115,9 +106,6 @@ found-behind-then {end = end} {mid} {r} h a e = record { to = go r (a .to); left
     go : (r : Found) → reached mid r ≤ mid → reached end r ≤ end
     go (At i) f = omega arith
     go Nothing f = omega arith
-
-pub drop-none : (s : List ℕ) (i : ℕ) → length s ≤ i → drop i s ≡ []
-drop-none s i h = drop-of-length-le s h
 
 -- ---- the symbol at a place
 -- one that is not 0 stands within the text

@@ -15,7 +15,7 @@ use Rattle.spec.specs.Laws.Symbols.{head-drop, past-drop}
 use Rattle.symbols.specs.Parts.{part, rest-of, length-part, sub-part}
 use Rattle.symbols.specs.Trim.{Narrowed, spanned}
 use Rattle.symbols.specs.declared.Span.{Span}
-use Rattle.closing.specs.Backward.{before, before-step, before-all}
+use Rattle.symbols.specs.Places.{before, before-step, before-all}
 
 abbrev pub whole : List ℕ → Span
 whole s = record { start = 0; end = length s }

@@ -2,8 +2,8 @@
 use search::Found;
 ghost use Rattle.spec.specs.Closing.{close, orEnd};
 ghost use lib.ListN.{drop};
-ghost use Rattle.closing.specs.Backward.{before};
-ghost use Rattle.operands.specs.Places.{Place, Ahead, Behind, FoundAhead, FoundBehind};
+ghost use Rattle.symbols.specs.Places.{before, Ahead, Behind};
+ghost use Rattle.operands.specs.Places.{Place, FoundAhead, FoundBehind};
 
 // Behind the closer of a bracket that has been opened.
 pub fn closed_after(s: &[u8], start: usize, opener: u8, closer: u8) -> Found

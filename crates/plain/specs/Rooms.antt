@@ -1,16 +1,15 @@
--- Laws of what comes next: how much of the text it takes, and a turn of the loops that look for it. Assumes nothing.
-use mathlib.Core.Path.{_≡_}
+-- Laws of what comes next: how much of the text it takes. Assumes nothing.
+use mathlib.Core.Path.{_≡_, refl, sym, ap, _∙_}
 use mathlib.Core.Bool.{Bool, true, false, false≢true, not, cond, _&&_, _||_}
 use mathlib.Core.List.{List, [], _∷_}
 use Prim.Native.Nat.{ℕ, zero, suc, _+_, _≤_, _<_}
 use Prim.Native.Char.{code}
-use native.Mathlib.Numerals.{add-one}
 use native.Mathlib.Omega.{arith}
-use lib.ListN.{length, getD, take, drop, drop-of-length-le}
-use lib.Seq.{drop-cons}
+use lib.ListN.{length, take, drop, length-drop}
 use borrow.Author.Tests.{eqb-true}
-use Rattle.spec.specs.Symbols.{is, digit, alnum, all}
+use Rattle.spec.specs.Symbols.{is, alnum, dropWhile}
 use Rattle.spec.specs.Laws.Booleans.{and-left, and-right}
+use Rattle.symbols.specs.Places.{Ahead}
 use Rattle.plain.specs.Tokens.{at, signNext, factorNext, run, isAtom, atomLength}
 
 -- a byte that is not 0 lies in the text
@@ -41,29 +40,24 @@ run-room (x ∷ xs) = by (alnum x) (run-room xs)
     by true h = omega arith
     by false h = omega arith
 
+run-drop : (xs : List ℕ) → drop (run xs) xs ≡ dropWhile alnum xs
+run-drop [] = refl
+run-drop (x ∷ xs) = by (alnum x) (run-drop xs)
+  where
+    by : (b : Bool) → drop (run xs) xs ≡ dropWhile alnum xs → drop (cond b (suc (run xs)) 0) (x ∷ xs) ≡ elim b [ true ↦ dropWhile alnum xs | false ↦ x ∷ xs ]
+    by true e = e
+    by false e = refl
+
+-- where the run ends
+pub run-is : {s : List ℕ} {r : ℕ} → Ahead s 0 r (dropWhile alnum s) → r ≡ run s
+run-is {s} {r} a =
+    let w = a .within in let h = run-room s in
+    let d = length-drop r s in let e = length-drop (run s) s in
+    let same = ap length (a .left ∙ sym (run-drop s)) in omega arith
+
 pub atom-room : (xs : List ℕ) → atomLength xs ≤ length xs
 atom-room xs = by (isAtom (take (run xs) xs))
   where
     by : (b : Bool) → cond b (run xs) 0 ≤ length xs
     by true = run-room xs
     by false = omega arith
-
--- a turn of the loop that counts a run
-module _ (s : List ℕ) (i : ℕ) (h : i < length s) where
-  pub run-more : alnum (getD s i 0) ≡ true → i + 1 + run (drop (i + 1) s) ≡ i + run (drop i s)
-  run-more e = let f : run (drop i s) ≡ suc (run (drop (i + 1) s)) = (rw (drop-cons s i 0 h, e, add-one i)) in omega (arith, f)
-
-  pub run-end : alnum (getD s i 0) ≡ false → i ≡ i + run (drop i s)
-  run-end e = let f : run (drop i s) ≡ 0 = (rw (drop-cons s i 0 h, e)) in omega (arith, f)
-
-  pub digits-more : digit (getD s i 0) ≡ true → all digit (drop (i + 1) s) ≡ all digit (drop i s)
-  digits-more e = rw (drop-cons s i 0 h, e, add-one i)
-
-  pub digits-end : digit (getD s i 0) ≡ false → false ≡ all digit (drop i s)
-  digits-end e = rw (drop-cons s i 0 h, e)
-
-pub run-whole : (s : List ℕ) (i : ℕ) → length s ≤ i → i ≡ i + run (drop i s)
-run-whole s i h = let f : run (drop i s) ≡ 0 = (rw (drop-of-length-le s h)) in omega (arith, f)
-
-pub digits-whole : (s : List ℕ) (i : ℕ) → length s ≤ i → true ≡ all digit (drop i s)
-digits-whole s i h = rw (drop-of-length-le s h)

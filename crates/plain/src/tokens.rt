@@ -1,8 +1,8 @@
 // What comes next in a text: a sign, one more factor, an atom.
+use symbols::Class;
 ghost use mathlib.Core.Path.{_≡_};
 ghost use lib.ListN.{drop};
-ghost use Rattle.spec.specs.Symbols.{digit, all};
-ghost use Rattle.plain.specs.Tokens.{signNext, factorNext, run, isAtom, atomLength};
+ghost use Rattle.plain.specs.Tokens.{signNext, factorNext, isAtom, atomLength};
 
 // What is left after n bytes.
 pub fn rest(s: &[u8], n: usize) -> &[u8]
@@ -29,39 +29,12 @@ pub fn factor_next(s: &[u8]) -> bool
     (search::symbol(s, 0) == b' ') & (sign != b'+') & (sign != b'-')
 }
 
-// How many letters and digits come next.
-fn run(s: &[u8]) -> usize
-    ensures { λ r. ⌜ r ≡ run (now (s .entry)) ⌝ }
-{
-    let mut i = 0;
-    while i < s.len() {
-        if !symbols::is_alnum(s[i]) {
-            return i;
-        }
-        i += 1;
-    }
-    i
-}
-
-fn all_digits(s: &[u8]) -> bool
-    ensures { λ r. ⌜ r ≡ all digit (now (s .entry)) ⌝ }
-{
-    let mut i = 0;
-    while i < s.len() {
-        if !symbols::is_digit(s[i]) {
-            return false;
-        }
-        i += 1;
-    }
-    true
-}
-
 // One letter, one of the thirty Greek names, or 1 to 9 digits.
 fn is_atom(s: &[u8]) -> bool
     ensures { λ r. ⌜ r ≡ isAtom (now (s .entry)) ⌝ }
 {
     let n = s.len();
-    let number = all_digits(s) & ((0 < n) & (n < 10));
+    let number = symbols::all_in(s, Class::Digit) & ((0 < n) & (n < 10));
     let variable = symbols::is_letter(search::symbol(s, 0)) & (n == 1);
     number | (variable | rows::is_greek(s))
 }
@@ -70,6 +43,6 @@ fn is_atom(s: &[u8]) -> bool
 pub fn atom(s: &[u8]) -> usize
     ensures { λ r. ⌜ r ≡ atomLength (now (s .entry)) ⌝ }
 {
-    let n = run(s);
+    let n = symbols::run_end(s, 0, Class::Alnum);
     if is_atom(&s[..n]) { n } else { 0 }
 }

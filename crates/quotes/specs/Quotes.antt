@@ -15,11 +15,10 @@ use lib.Seq.{drop-drop, take-at}
 use Rattle.spec.specs.Symbols.{bytes, is, alnum, blank, head, dropWhile, trimStart, find}
 use Rattle.spec.specs.Quotes.{gapBefore, openQuote, gapBehind, closeQuote, skipped, quotes, convertTextQuotes}
 use Rattle.spec.specs.Laws.Symbols.{drop-step, head-drop}
-use Rattle.symbols.specs.Parts.{part, rest-of}
-use Rattle.symbols.specs.Trim.{Skipped}
+use Rattle.symbols.specs.Places.{Ahead}
+use Rattle.symbols.specs.Runs.{ahead-length}
 use Rattle.text.specs.Writer.{Appended}
 use Rattle.text.specs.Written.{Wrote, Written, wrote-none, wrote-more, wrote-less}
-use Rattle.symbols.specs.declared.Span.{Span}
 use Rattle.quotes.specs.declared.Tail.{Tail}
 use Rattle.quotes.specs.declared.After.{After}
 
@@ -81,31 +80,24 @@ gap-before : {o : List ℕ} {t : Tail} → Ends o t → gapBefore (trimStart o) 
 gap-before h = ap gapBefore (h .trimmed) ∙ ap (λ x. alnum x || is "}" x) (h .last)
 
 -- ---- what follows a closing quote
-module _ {s : List ℕ} {i : ℕ} {p : Span} (within : i ≤ length s) (skips : Skipped s (record { start = i; end = length s }) p (trimStart (part i (length s - i) s))) where
-  trimmed-rest : trimStart (drop i s) ≡ drop (p .start) s
-  trimmed-rest =
-      ap trimStart (sym (rest-of i s)) ∙ sym (skips .text)
-      ∙ ap (λ e. part (p .start) (e - p .start) s) (skips .ends) ∙ rest-of (p .start) s
+module _ {s : List ℕ} {i r : ℕ} (behind : Ahead s i r (trimStart (drop i s))) where
+  gap-behind : gapBehind (drop i s) ≡ (alnum (getD s r 0) || is "\"" (getD s r 0))
+  gap-behind = ap (λ x. alnum x || is "\"" x) (ap head (sym (behind .left)) ∙ head-drop s r)
 
-  first-behind : head (trimStart (drop i s)) ≡ getD s (p .start) 0
-  first-behind = ap head trimmed-rest ∙ head-drop s (p .start)
-
-  gap-behind : gapBehind (drop i s) ≡ (alnum (getD s (p .start) 0) || is "\"" (getD s (p .start) 0))
-  gap-behind = ap (λ x. alnum x || is "\"" x) first-behind
-
-  pub closed-gap : alnum (getD s (p .start) 0) || is "\"" (getD s (p .start) 0) ≡ true → ClosedAt s i (record { gap = true; next = p .start })
+  pub closed-gap : alnum (getD s r 0) || is "\"" (getD s r 0) ≡ true → ClosedAt s i (record { gap = true; next = r })
   closed-gap e =
       let g = gap-behind ∙ e in
-      let a = length-drop i s in let b = length-drop (p .start) s in let d = ap length trimmed-rest in
-      let f = skips .from in let o = skips .order in let n = skips .ends in
-      let m : p .start ≡ i + (length (drop i s) - length (trimStart (drop i s))) = omega arith in
-      record { gap = sym g; next = m ∙ sym (ap (λ b. i + cond b (length (drop i s) - length (trimStart (drop i s))) 0) g); within = omega arith }
+      record {
+        gap = sym g;
+        next = ahead-length behind ∙ sym (ap (λ b. i + cond b (length (drop i s) - length (trimStart (drop i s))) 0) g);
+        within = behind .within;
+      }
 
-  pub closed-plain : alnum (getD s (p .start) 0) || is "\"" (getD s (p .start) 0) ≡ false → ClosedAt s i (record { gap = false; next = i })
+  pub closed-plain : alnum (getD s r 0) || is "\"" (getD s r 0) ≡ false → ClosedAt s i (record { gap = false; next = i })
   closed-plain e =
-      let g = gap-behind ∙ e in
+      let g = gap-behind ∙ e in let f = behind .from in let w = behind .within in
       let m : i ≡ i + 0 = omega arith in
-      record { gap = sym g; next = m ∙ sym (ap (λ b. i + cond b (length (drop i s) - length (trimStart (drop i s))) 0) g); within = within }
+      record { gap = sym g; next = m ∙ sym (ap (λ b. i + cond b (length (drop i s) - length (trimStart (drop i s))) 0) g); within = omega arith }
 
 -- ---- the turns of the definition
 quotes-skip : (q : Bool) (k : ℕ) (o s : List ℕ) → quotes q k o s ≡ quotes q 0 o (drop k s)

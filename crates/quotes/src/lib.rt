@@ -2,7 +2,6 @@
 // neighbour. Blanks before such a neighbour are dropped, also those written already: what has been written is never read back, its
 // end is handed on by value.
 use symbols::Class;
-use symbols::Span;
 use text::Due;
 use text::Progress;
 ghost use mathlib.Core.Path.{_≡_};
@@ -64,15 +63,7 @@ fn after_quote(s: &[u8], i: usize) -> After
     requires { ⌜ i ≤ length (now s) ⌝ }
     ensures { λ r. ⌜ ClosedAt (now (s .entry)) i r ⌝ }
 {
-    let span = symbols::skip(
-        s,
-        Span {
-            start: i,
-            end: s.len(),
-        },
-        Class::Blank,
-    );
-    let next = span.start;
+    let next = symbols::run_end(s, i, Class::Blank);
     let symbol = search::symbol(s, next);
     if symbols::is_alnum(symbol) | (symbol == b'"') {
         return After { gap: true, next };

@@ -10,17 +10,18 @@ use mathlib.Core.Option.{Option, none, some}
 use Prim.Native.Nat.{ℕ, suc, pred, _+_, _-_, _≤_, _<_}
 use native.Mathlib.Omega.{arith}
 use lib.Dec.{ltb}
-use lib.ListN.{length, getD, take, drop, length-drop, drop-of-length-le}
+use lib.ListN.{length, take, drop, length-drop}
 use lib.Seq.{drop-drop, length-take-le}
 use borrow.Author.Tests.{lt-ltb, le-ltb}
 use Rattle.spec.specs.Symbols.{bytes, alnum, past, until, inside, dropWhile, starts}
 use Rattle.spec.specs.Sweep.{Turn, Rule, taken, kept, replacing}
 use Rattle.spec.specs.Closing.{findMatchingParen, findMatchingBrace}
 use Rattle.spec.specs.Words.{braced, parenToBrace}
-use Rattle.spec.specs.Laws.Symbols.{starts-long, past-drop, drop-step}
+use Rattle.spec.specs.Laws.Symbols.{starts-long, past-drop}
 use Rattle.spec.specs.Laws.Sweep.{Waits}
 use Rattle.symbols.specs.Parts.{part, rest-of}
 use Rattle.search.specs.Search.{Closes, closes-at, closes-within, closes-nothing, inside-drop, until-drop}
+use Rattle.symbols.specs.Places.{Ahead}
 use Rattle.symbols.specs.Trim.{spanned}
 use Rattle.symbols.specs.declared.Span.{Span}
 use Rattle.search.specs.declared.Found.{Found}
@@ -81,12 +82,6 @@ pub record Met (pattern s : List ℕ) : Type 0 where
   pub starts-with : starts pattern s ≡ true
   pub some : 0 < length pattern
   pub short : length s ≤ 16384
-
--- letters and digits stand behind the first symbol, up to `end`
-pub record Run (s : List ℕ) (end : ℕ) : Type 0 where
-  pub from : 1 ≤ end
-  pub to : end ≤ length s
-  pub rest : dropWhile alnum (drop 1 s) ≡ drop end s
 
 -- ---- without its pattern each rule copies
 pub rule-waits : (kind : Kind) (pattern left : List ℕ) → Waits pattern (ruleOf kind pattern left)
@@ -174,19 +169,19 @@ module _ {pattern s : List ℕ} (met : Met pattern s) (left : List ℕ) where
     pub text-open : r ≡ Nothing → Edited (wrapTextBy pattern left) left s Copy
     text-open e = record { sound = tt; turn = λ before. rw (met .starts-with, wrapTextBy) (ap (wrappedBy left s) (closes-nothing f e)) }
 
-  module _ {end : ℕ} (run : Run s end) where
+  module _ {end : ℕ} (run : Ahead s 1 end (dropWhile alnum (drop 1 s))) where
     ident : until (past s) (dropWhile alnum (past s)) ≡ take (end - 1) (drop 1 s)
     ident =
         let f = run .from in
-        ap (λ t. until (past s) (dropWhile alnum t)) (past-drop s 0) ∙ ap (until (past s)) (run .rest)
-        ∙ until-place s end (omega arith) (run .to)
+        ap (λ t. until (past s) (dropWhile alnum t)) (past-drop s 0) ∙ ap (until (past s)) (sym (run .left))
+        ∙ until-place s end (omega arith) (run .within)
 
     ident-long : length (until (past s) (dropWhile alnum (past s))) ≡ end - 1
-    ident-long = let f = run .from in ap length ident ∙ length-place s end (omega arith) (run .to)
+    ident-long = let f = run .from in ap length ident ∙ length-place s end (omega arith) (run .within)
 
     pub ident-wrapped : 2 < end → Edited (wrapMulticharBy pattern left) left s (Write (record { start = 1; end = end }) end true)
     ident-wrapped h =
-        let f = run .from in let t = run .to in let c = ident-long in
+        let f = run .from in let t = run .within in let c = ident-long in
         let m : length (until (past s) (dropWhile alnum (past s))) ≡ pred end = omega arith in
         record {
           sound = record { order = omega arith; inside = omega arith; some = omega arith; within = omega arith };
@@ -201,14 +196,3 @@ module _ {pattern s : List ℕ} (met : Met pattern s) (left : List ℕ) where
           sound = tt;
           turn = λ before. rw (met .starts-with, le-ltb 1 (length (until (past s) (dropWhile alnum (past s)))) (omega arith));
         }
-
--- ---- the letters and digits behind the first symbol, one by one
-module _ (s : List ℕ) (end : ℕ) (within : end < length s) where
-  pub run-more : alnum (getD s end 0) ≡ true → dropWhile alnum (drop end s) ≡ dropWhile alnum (drop (end + 1) s)
-  run-more t = ap (dropWhile alnum) (drop-step s end within) ∙ rw (t, dropWhile)
-
-  pub run-stop : alnum (getD s end 0) ≡ false → dropWhile alnum (drop end s) ≡ drop end s
-  run-stop t = ap (dropWhile alnum) (drop-step s end within) ∙ (rw (t, dropWhile) (sym (drop-step s end within)))
-
-pub run-end : (s : List ℕ) (end : ℕ) → length s ≤ end → dropWhile alnum (drop end s) ≡ drop end s
-run-end s end h = ap (dropWhile alnum) (drop-of-length-le s h) ∙ sym (drop-of-length-le s h)

@@ -2,6 +2,7 @@
 use super::Edit;
 use super::Kind;
 use search::Found;
+use symbols::Class;
 use symbols::Span;
 ghost use mathlib.Core.Bool.{true};
 ghost use mathlib.Core.List.{List};
@@ -9,7 +10,7 @@ ghost use Prim.Native.Nat.{ℕ, _≤_, _<_};
 ghost use lib.ListN.{length};
 ghost use Rattle.spec.specs.Sweep.{replacing};
 ghost use Rattle.spec.specs.Words.{parenToBrace};
-ghost use Rattle.rewrite.specs.Edits.{Edited, Met, Run, ruleOf, wrapTextBy, wrapMulticharBy};
+ghost use Rattle.rewrite.specs.Edits.{Edited, Met, ruleOf, wrapTextBy, wrapMulticharBy};
 
 // The text begins with a pattern that ends with a parenthesis. With no closer, all of the text is taken.
 fn paren_to_brace(s: &[u8], pattern: &[u8]) -> Edit
@@ -51,27 +52,12 @@ fn wrap_text(s: &[u8], pattern: &[u8]) -> Edit
     Edit::Write(Span { start: 1, end }, end, true)
 }
 
-// Where the letters and digits end that stand behind the first symbol.
-fn ident_end(s: &[u8]) -> usize
-    requires { ⌜ 0 < length (now s) ⌝ }
-    ensures { λ r. ⌜ Run (now (s .entry)) r ⌝ }
-{
-    let mut end = 1;
-    while end < s.len() {
-        if !symbols::is_alnum(s[end]) {
-            return end;
-        }
-        end += 1;
-    }
-    end
-}
-
-// The text begins with a sign.
+// The text begins with a sign. Letters and digits behind it, two at the least, get braces.
 fn wrap_multichar(s: &[u8], pattern: &[u8]) -> Edit
     requires { ⌜ Met (now pattern) (now s) ⌝ }
     ensures { λ r. ⌜ ((left : List ℕ) → Edited (wrapMulticharBy (now (pattern .entry)) left) left (now (s .entry)) r) ⌝ }
 {
-    let end = ident_end(s);
+    let end = symbols::run_end(s, 1, Class::Alnum);
     if 2 < end {
         return Edit::Write(Span { start: 1, end }, end, true);
     }

@@ -20,7 +20,7 @@ use Rattle.spec.specs.Finish.{scriptGroup, closing, alreadySized, Group, tall, 
 use Rattle.spec.specs.Laws.Symbols.{drop-step, head-drop, starts-take, starts-short}
 use Rattle.symbols.specs.Parts.{part, drop-take}
 use Rattle.search.specs.Search.{Closes, closes-at, closes-within, closes-nothing, reach, inside-drop, until-drop}
-use Rattle.text.specs.Filling.{passed-by, passed-more}
+use Rattle.symbols.specs.Places.{before, before-next}
 use Rattle.search.specs.declared.Found.{Found}
 use Rattle.search.specs.declared.Found.the-variants.{At, Nothing}
 use Rattle.sizing.specs.Levels.{ifTall, groupOf, groupWith, groupStep, scriptStep, sizes, sizes-first, size-step, close-behind}
@@ -39,7 +39,7 @@ closer-is x = go (is "(" x)
     go false = inr refl
 
 unfoldable pub sizedAt : List ℕ → ℕ → List ℕ
-sizedAt s i = sizes (passed-by s i) (drop i s)
+sizedAt s i = sizes (before s i) (drop i s)
 
 -- ---- a word that stands right before a place
 starts-own : (w t : List ℕ) → starts w (w ++ t) ≡ true
@@ -69,12 +69,12 @@ starts-back w x v e = go (starts w x) refl (starts (reverse w) (reverse (v ++ x)
         sym f ∙ ap (starts w) (same ∙ sym (append-nil w)) ∙ starts-own w []
     go false f false g = refl
 
-pub before-short : (w s : List ℕ) (i : ℕ) → i < length w → starts (reverse w) (passed-by s i) ≡ false
+pub before-short : (w s : List ℕ) (i : ℕ) → i < length w → starts (reverse w) (before s i) ≡ false
 before-short w s i h =
     let lw = length-reverse w in let lt = length-reverse (take i s) in let l = length-take i s in
-    starts-short (reverse w) (passed-by s i) (omega arith)
+    starts-short (reverse w) (before s i) (omega arith)
 
-pub before-is : (w s : List ℕ) (i : ℕ) → length w ≤ i → i ≤ length s → starts w (part (i - length w) (i - (i - length w)) s) ≡ starts (reverse w) (passed-by s i)
+pub before-is : (w s : List ℕ) (i : ℕ) → length w ≤ i → i ≤ length s → starts w (part (i - length w) (i - (i - length w)) s) ≡ starts (reverse w) (before s i)
 before-is w s i h within =
     let x = part (i - length w) (i - (i - length w)) s in
     let lx = length-take (i - (i - length w)) (drop (i - length w) s) in let ld = length-drop (i - length w) s in
@@ -134,16 +134,16 @@ module _ (s : List ℕ) (o c : ℕ) {r : Found} (f : Closes s r (close o c 0 s))
 -- ---- a tall group at a place
 pub record TallAt (s : List ℕ) (i : ℕ) (r : Found) : Type 0 where
   pub within : reach r ≤ length (drop (i + 1) s)
-  pub group : tallGroup (passed-by s i) (getD s i 0) (drop (i + 1) s) ≡ grouped (closerOf (getD s i 0)) (drop (i + 1) s) r
+  pub group : tallGroup (before s i) (getD s i 0) (drop (i + 1) s) ≡ grouped (closerOf (getD s i 0)) (drop (i + 1) s) r
   pub closes : closesAt (closerOf (getD s i 0)) (drop (i + 1) s) r
 
 module _ (s : List ℕ) (i : ℕ) where
-  pub tall-sized : alreadySized (passed-by s i) ≡ true → TallAt s i Nothing
+  pub tall-sized : alreadySized (before s i) ≡ true → TallAt s i Nothing
   unfolding tallGroup
   tall-sized e = record { within = omega arith; group = rw (e, tallGroup); closes = tt }
 
-  module _ (e : alreadySized (passed-by s i) ≡ false) where
-    open-group : tallGroup (passed-by s i) (getD s i 0) (drop (i + 1) s) ≡ groupWith (getD s i 0) (drop (i + 1) s) (closing (getD s i 0))
+  module _ (e : alreadySized (before s i) ≡ false) where
+    open-group : tallGroup (before s i) (getD s i 0) (drop (i + 1) s) ≡ groupWith (getD s i 0) (drop (i + 1) s) (closing (getD s i 0))
     unfolding tallGroup
     open-group = rw (e, tallGroup)
 
@@ -180,14 +180,14 @@ abbrev pub PieceFor : List ℕ → ℕ → Piece → Type 0
 PieceFor s i (Keep k) = Kept s i k
 PieceFor s i (Tall k) = Grown s i k
 
-passed-many : (s : List ℕ) (i k : ℕ) → reverseAux (take k (drop i s)) (passed-by s i) ≡ passed-by s (i + k)
+passed-many : (s : List ℕ) (i k : ℕ) → reverseAux (take k (drop i s)) (before s i) ≡ before s (i + k)
 passed-many s i k =
-    reverseAux-eq (take k (drop i s)) (passed-by s i) ∙ sym (reverse-append (take i s) (take k (drop i s))) ∙ ap reverse (sym (take-add i k s))
+    reverseAux-eq (take k (drop i s)) (before s i) ∙ sym (reverse-append (take i s) (take k (drop i s))) ∙ ap reverse (sym (take-add i k s))
 
 module _ (s : List ℕ) (i : ℕ) (inside : i < length s) where
-  here : sizedAt s i ≡ scriptStep sizes (passed-by s i) (getD s i 0) (drop (i + 1) s) (scriptGroup (getD s i 0) (drop (i + 1) s))
+  here : sizedAt s i ≡ scriptStep sizes (before s i) (getD s i 0) (drop (i + 1) s) (scriptGroup (getD s i 0) (drop (i + 1) s))
   unfolding sizedAt
-  here = ap (sizes (passed-by s i)) (drop-step s i inside) ∙ size-step (passed-by s i) (getD s i 0) (drop (i + 1) s)
+  here = ap (sizes (before s i)) (drop-step s i inside) ∙ size-step (before s i) (getD s i 0) (drop (i + 1) s)
 
   module _ {r : Found} (f : Closes (drop (i + 1) s) r (scriptGroup (getD s i 0) (drop (i + 1) s))) where
     pub script-piece : {j : ℕ} → r ≡ At j → PieceFor s i (Keep (j + 2))
@@ -206,14 +206,14 @@ module _ (s : List ℕ) (i : ℕ) (inside : i < length s) where
         record {
           some = omega arith;
           fits = omega arith;
-          step = here ∙ ap (scriptStep sizes (passed-by s i) x t) (closes-at f e)
-              ∙ ap (λ u. u ++ sizes (reverseAux u (passed-by s i)) (drop (j + 1) t)) block
+          step = here ∙ ap (scriptStep sizes (before s i) x t) (closes-at f e)
+              ∙ ap (λ u. u ++ sizes (reverseAux u (before s i)) (drop (j + 1) t)) block
               ∙ ap₂ (λ p q. take (j + 2) (drop i s) ++ sizes p q) (passed-many s i (j + 2)) (behind ∙ drop-drop (j + 2) i s);
         }
 
     module _ (e : r ≡ Nothing) where
-      no-script : sizedAt s i ≡ groupStep sizes (passed-by s i) (getD s i 0) (drop (i + 1) s) (tallGroup (passed-by s i) (getD s i 0) (drop (i + 1) s))
-      no-script = here ∙ ap (scriptStep sizes (passed-by s i) (getD s i 0) (drop (i + 1) s)) (closes-nothing f e)
+      no-script : sizedAt s i ≡ groupStep sizes (before s i) (getD s i 0) (drop (i + 1) s) (tallGroup (before s i) (getD s i 0) (drop (i + 1) s))
+      no-script = here ∙ ap (scriptStep sizes (before s i) (getD s i 0) (drop (i + 1) s)) (closes-nothing f e)
 
       pub symbol-piece : {q : Found} → TallAt s i q → q ≡ Nothing → PieceFor s i (Keep 1)
       unfolding sizedAt
@@ -222,15 +222,15 @@ module _ (s : List ℕ) (i : ℕ) (inside : i < length s) where
           record {
             some = omega arith;
             fits = omega arith;
-            step = no-script ∙ ap (groupStep sizes (passed-by s i) (getD s i 0) (drop (i + 1) s)) g
-                ∙ ap (λ p. getD s i 0 ∷ sizes p (drop (i + 1) s)) (sym (passed-more s i inside))
+            step = no-script ∙ ap (groupStep sizes (before s i) (getD s i 0) (drop (i + 1) s)) g
+                ∙ ap (λ p. getD s i 0 ∷ sizes p (drop (i + 1) s)) (sym (before-next s i inside))
                 ∙ ap (λ u. take 1 u ++ sizedAt s (i + 1)) (sym (drop-step s i inside));
           }
 
       pub tall-piece : {q : Found} {k : ℕ} → TallAt s i q → q ≡ At k → PieceFor s i (Tall k)
       unfolding sizedAt
       tall-piece {k = k} t n =
-          let x = getD s i 0 in let b = drop (i + 1) s in let c = closerOf x in let o = passed-by s i in
+          let x = getD s i 0 in let b = drop (i + 1) s in let c = closerOf x in let o = before s i in
           let w = t .within in let q = ap reach n in let l = length-drop (i + 1) s in
           let g = t .group ∙ ap (grouped c b) n in
           let closes : getD b k 0 ≡ c = subst (closesAt c b) n (t .closes) in
@@ -239,9 +239,9 @@ module _ (s : List ℕ) (i : ℕ) (inside : i < length s) where
           let e2 : i + k + 1 + 1 ≡ i + k + 2 = omega arith in
           let e3 : i + 1 + k ≡ i + k + 1 = omega arith in
           let behind : drop (k + 1) b ≡ drop (i + k + 2) s = drop-drop (k + 1) (i + 1) s ∙ ap (λ j. drop j s) e1 in
-          let last : passed-by s (i + k + 2) ≡ c ∷ passed-by s (i + k + 1) =
-          ap (passed-by s) (sym e2) ∙ passed-more s (i + k + 1) (omega arith)
-          ∙ ap (λ y. y ∷ passed-by s (i + k + 1)) (ap (λ j. getD s j 0) (sym e3) ∙ sym (getD-drop (i + 1) s k 0) ∙ closes)
+          let last : before s (i + k + 2) ≡ c ∷ before s (i + k + 1) =
+          ap (before s) (sym e2) ∙ before-next s (i + k + 1) (omega arith)
+          ∙ ap (λ y. y ∷ before s (i + k + 1)) (ap (λ j. getD s j 0) (sym e3) ∙ sym (getD-drop (i + 1) s k 0) ∙ closes)
           in
           let m₀ = bytes "\\left" ++ (x ∷ (sizes [] (take k b) ++ bytes "\\right")) in
           let ends : reverseAux m o ≡ c ∷ reverseAux m₀ o =
@@ -252,7 +252,7 @@ module _ (s : List ℕ) (i : ℕ) (inside : i < length s) where
             fits = omega arith;
             step = no-script ∙ ap (groupStep sizes o x b) g
                 ∙ ap (λ p. m ++ sizes p (drop (k + 1) b)) ends
-                ∙ ap (λ u. m ++ u) (sizes-alike (drop (k + 1) b) (group {o = reverseAux m₀ o} {p = passed-by s (i + k + 1)} c (closer-is x)))
+                ∙ ap (λ u. m ++ u) (sizes-alike (drop (k + 1) b) (group {o = reverseAux m₀ o} {p = before s (i + k + 1)} c (closer-is x)))
                 ∙ ap₂ (λ p u. m ++ sizes p u) (sym last) behind
                 ∙ ap (λ u. leftRight x c u ++ sizedAt s (i + k + 2)) (sizes-first (take k b));
           }

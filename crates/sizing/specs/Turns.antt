@@ -9,7 +9,8 @@ use Rattle.spec.specs.Symbols.{bytes}
 use Rattle.spec.specs.Finish.{leftRight, sizeDelimitersToContent}
 use Rattle.symbols.specs.Parts.{part, length-part, sub-part}
 use Rattle.text.specs.Writer.{Regions, Appended, Apart, apart-part, appended-more, appended-part}
-use Rattle.text.specs.Filling.{Filling, filling-more, filling-source, filling-symbol, passed-by}
+use Rattle.symbols.specs.Places.{before}
+use Rattle.text.specs.Filling.{Filling, filling-more, filling-source, filling-symbol}
 use Rattle.sizing.specs.Levels.{sizes, sizes-first, sizes-end}
 use Rattle.sizing.specs.Pieces.{sizedAt, closerOf, PieceFor, Kept, Grown}
 use Rattle.sizing.specs.declared.Piece.{Piece}
@@ -25,7 +26,7 @@ sized-first s = sizes-first s
 
 pub sized-end : (s : List ℕ) (i : ℕ) → length s ≤ i → sizedAt s i ≡ []
 unfolding sizedAt
-sized-end s i h = ap (sizes (passed-by s i)) (drop-of-length-le s h) ∙ sizes-end (passed-by s i)
+sized-end s i h = ap (sizes (before s i)) (drop-of-length-le s h) ∙ sizes-end (before s i)
 
 module _
     {w₀ w : List ℕ} {from n to count₀ count : ℕ} (i : ℕ) {whole : List ℕ}

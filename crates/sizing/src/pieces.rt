@@ -9,7 +9,7 @@ ghost use lib.ListN.{length, getD, drop};
 ghost use Rattle.spec.specs.Symbols.{bytes, starts, contains, scriptSign};
 ghost use Rattle.spec.specs.Finish.{tall, scriptGroup, alreadySized};
 ghost use Rattle.search.specs.Search.{Closes};
-ghost use Rattle.text.specs.Filling.{passed-by};
+ghost use Rattle.symbols.specs.Places.{before};
 ghost use Rattle.sizing.specs.Pieces.{TallIn, TallAt, PieceFor};
 
 fn is_tall(s: &[u8]) -> bool
@@ -37,7 +37,7 @@ fn is_script(b: u8) -> bool
 // Whether the word stands right before a place.
 fn stands_before(s: &[u8], i: usize, word: &[u8]) -> bool
     requires { ⌜ i ≤ length (now s) ⌝ }
-    ensures { λ r. ⌜ r ≡ starts (reverse (now (word .entry))) (passed-by (now (s .entry)) i) ⌝ }
+    ensures { λ r. ⌜ r ≡ starts (reverse (now (word .entry))) (before (now (s .entry)) i) ⌝ }
 {
     if i < word.len() {
         return false;
@@ -49,7 +49,7 @@ fn stands_before(s: &[u8], i: usize, word: &[u8]) -> bool
 // Whether the delimiter at a place has its size already.
 fn is_sized(s: &[u8], i: usize) -> bool
     requires { ⌜ i ≤ length (now s) ⌝ }
-    ensures { λ r. ⌜ r ≡ alreadySized (passed-by (now (s .entry)) i) ⌝ }
+    ensures { λ r. ⌜ r ≡ alreadySized (before (now (s .entry)) i) ⌝ }
 {
     stands_before(s, i, b"\\left") | stands_before(s, i, b"\\right")
 }

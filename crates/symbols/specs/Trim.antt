@@ -1,26 +1,18 @@
 -- Spans of a text, and trimming them.
---     Span, spanned      the symbols from a start to an end
---     member             the symbols of a class
---     dropWhile-more ..  the steps of the loops that trim
+--     Span, spanned    the symbols from a start to an end
 -- Assumes nothing.
 use mathlib.Core.Path.{_≡_, sym, ap, _∙_}
-use mathlib.Core.Bool.{Bool, true, false}
-use mathlib.Core.List.{List, [], _∷_, _++_, reverse, reverse-append, reverse-reverse}
-use Prim.Native.Nat.{ℕ, suc, _+_, _-_, _≤_, _<_}
+use mathlib.Core.Bool.{Bool}
+use mathlib.Core.List.{List}
+use Prim.Native.Nat.{ℕ, _+_, _-_, _≤_}
 use native.Mathlib.Omega.{arith}
-use native.Mathlib.Numerals.{add-one}
-use lib.Dec.{eqb}
-use lib.ListN.{length, getD, take, drop, length-drop}
-use lib.Seq.{drop-cons, take-suc, getD-drop}
-use Rattle.spec.specs.Symbols.{blank, dropWhile, dropWhileEnd}
-use Rattle.symbols.specs.Parts.{part}
-use Rattle.symbols.specs.declared.Class.{Class}
-use Rattle.symbols.specs.declared.Class.the-variants.{Blank, Only}
+use lib.ListN.{length, drop}
+use lib.Seq.{take-take}
+use Rattle.spec.specs.Symbols.{dropWhile, dropWhileEnd}
+use Rattle.symbols.specs.Parts.{part, length-part, rest-part}
+use Rattle.symbols.specs.Places.{before, Ahead, Behind}
+use Rattle.symbols.specs.Runs.{behind-end}
 use Rattle.symbols.specs.declared.Span.{Span}
-
-abbrev pub member : Class → ℕ → Bool
-member Blank x = blank x
-member (Only b) x = eqb x b
 
 abbrev pub spanned : Span → List ℕ → List ℕ
 spanned p s = part (p .start) (p .end - p .start) s
@@ -37,44 +29,30 @@ pub record Narrowed (s : List ℕ) (p r : Span) (t : List ℕ) : Type 0 where
   pub to : r .end ≤ p .end
   pub text : spanned r s ≡ t
 
--- the same where only its start moves, which says the place too
-pub record Skipped (s : List ℕ) (p r : Span) (t : List ℕ) : Type 0 where
-  pub from : p .start ≤ r .start
-  pub order : r .start ≤ r .end
-  pub to : r .end ≤ p .end
-  pub ends : r .end ≡ p .end
-  pub text : spanned r s ≡ t
+length-spanned : {s : List ℕ} {p : Span} → Within s p → length (spanned p s) ≡ p .end - p .start
+length-spanned {s} {p} h = let o = h .order in let i = h .inside in length-part (p .start) (p .end - p .start) s (omega arith)
 
--- ---- the first and the last symbol of a part
-module _ (s : List ℕ) (a e : ℕ) (some : a < e) (inside : e ≤ length s) where
-  part-first : part a (e - a) s ≡ getD s a 0 ∷ part (a + 1) (e - (a + 1)) s
-  part-first =
-      let n : e - a ≡ suc (e - (a + 1)) = omega arith in
-      rw (n, drop-cons s a 0 (omega arith), add-one a)
+-- ---- a span from where a run ends, and one to where a run begins
+module _ (f : ℕ → Bool) {s : List ℕ} {p : Span} (h : Within s p) {k : ℕ} where
+  pub skipped : Ahead (spanned p s) 0 k (dropWhile f (spanned p s)) → Narrowed s p (record { start = p .start + k; end = p .end }) (dropWhile f (spanned p s))
+  skipped a =
+      let w = a .within in let l = length-spanned h in let o = h .order in
+      let n : p .end ≡ p .start + (p .end - p .start) = omega arith in
+      record {
+        from = omega arith;
+        order = omega arith;
+        to = omega arith;
+        text = ap (λ e. part (p .start + k) (e - (p .start + k)) s) n ∙ rest-part (p .start) (p .end - p .start) k s ∙ a .left;
+      }
 
-  part-last : part a (e - a) s ≡ part a (e - 1 - a) s ++ getD s (e - 1) 0 ∷ []
-  part-last =
-      let n : e - a ≡ suc (e - 1 - a) = omega arith in
-      let m : a + (e - 1 - a) ≡ e - 1 = omega arith in
-      let l = length-drop a s in
-      ap (λ k. take k (drop a s)) n ∙ take-suc (drop a s) (e - 1 - a) 0 (omega arith)
-      ∙ ap (λ x. part a (e - 1 - a) s ++ x ∷ []) (getD-drop a s (e - 1 - a) 0 ∙ ap (λ k. getD s k 0) m)
-
-  module _ (f : ℕ → Bool) where
-    pub dropWhile-more : f (getD s a 0) ≡ true → dropWhile f (part a (e - a) s) ≡ dropWhile f (part (a + 1) (e - (a + 1)) s)
-    dropWhile-more t = ap (dropWhile f) part-first ∙ rw (t, dropWhile)
-
-    pub dropWhile-stop : f (getD s a 0) ≡ false → dropWhile f (part a (e - a) s) ≡ part a (e - a) s
-    dropWhile-stop t = ap (dropWhile f) part-first ∙ (rw (t, dropWhile) (sym part-first))
-
-    reversed : reverse (part a (e - a) s) ≡ getD s (e - 1) 0 ∷ reverse (part a (e - 1 - a) s)
-    reversed = ap reverse part-last ∙ reverse-append (part a (e - 1 - a) s) (getD s (e - 1) 0 ∷ [])
-
-    pub dropWhileEnd-more : f (getD s (e - 1) 0) ≡ true → dropWhileEnd f (part a (e - a) s) ≡ dropWhileEnd f (part a (e - 1 - a) s)
-    dropWhileEnd-more t = ap (λ l. reverse (dropWhile f l)) reversed ∙ rw (t, dropWhile)
-
-    pub dropWhileEnd-stop : f (getD s (e - 1) 0) ≡ false → dropWhileEnd f (part a (e - a) s) ≡ part a (e - a) s
-    dropWhileEnd-stop t = ap (λ l. reverse (dropWhile f l)) reversed ∙ (rw (t, dropWhile) (ap reverse (sym reversed) ∙ reverse-reverse (part a (e - a) s)))
-
-pub part-none : (s : List ℕ) (a e : ℕ) → e ≤ a → part a (e - a) s ≡ []
-part-none s a e h = let z : e - a ≡ 0 = omega arith in ap (λ k. take k (drop a s)) z
+  pub skipped-end : Behind (spanned p s) (p .end - p .start) k (dropWhile f (before (spanned p s) (p .end - p .start)))
+      → Narrowed s p (record { start = p .start; end = p .start + k }) (dropWhileEnd f (spanned p s))
+  skipped-end b =
+      let t = b .to in let o = h .order in
+      let n : p .start + k - p .start ≡ k = omega arith in
+      record {
+        from = omega arith;
+        order = omega arith;
+        to = omega arith;
+        text = ap (λ m. part (p .start) m s) n ∙ sym (take-take k (p .end - p .start) (drop (p .start) s) t) ∙ behind-end f (sym (length-spanned h)) b;
+      }

@@ -1,6 +1,8 @@
-// Classes of symbols. Each is one expression with no branch.
+// Classes of symbols. Each is one expression with no branch; `is_in` chooses among them.
+use super::Class;
 ghost use mathlib.Core.Path.{_≡_};
 ghost use Rattle.spec.specs.Symbols.{between, blank, letter, digit, alnum, wordly, foreign};
+ghost use Rattle.symbols.specs.Runs.{member};
 
 fn is_between(low: u8, high: u8, b: u8) -> bool
     ensures { λ r. ⌜ r ≡ between low high b ⌝ }
@@ -41,8 +43,23 @@ pub fn is_word(b: u8) -> bool
 }
 
 // Number 1: a byte that no formula has.
-pub fn is_foreign(b: u8) -> bool
+fn is_foreign(b: u8) -> bool
     ensures { λ r. ⌜ r ≡ foreign b ⌝ }
 {
     !(is_between(b' ', b'~', b) | ((b == b'\t') | (b == b'\n')))
+}
+
+pub fn is_in(class: Class, b: u8) -> bool
+    ensures { λ r. ⌜ r ≡ member class b ⌝ }
+{
+    match class {
+        Class::Blank => is_blank(b),
+        Class::Letter => is_letter(b),
+        Class::Digit => is_digit(b),
+        Class::Alnum => is_alnum(b),
+        Class::Formula => !is_foreign(b),
+        Class::Latex => !(is_foreign(b) | (b == b'$')),
+        Class::Only(x) => b == x,
+        Class::Except(x) => b != x,
+    }
 }

@@ -1,15 +1,16 @@
-// Symbols of a text: their classes, and spans without the symbols of a class at their ends.
+// Symbols of a text: their classes, runs of a class, and spans without the symbols of a class at their ends.
 mod classes;
+mod runs;
 mod spans;
 
 pub use classes::is_alnum;
 pub use classes::is_blank;
 pub use classes::is_digit;
-pub use classes::is_foreign;
 pub use classes::is_letter;
 pub use classes::is_word;
-pub use spans::is_in;
-pub use spans::skip;
+pub use runs::all_in;
+pub use runs::run_end;
+pub use runs::run_start;
 pub use spans::skip_end;
 pub use spans::trim;
 
@@ -19,8 +20,16 @@ pub struct Span {
     pub end: usize,
 }
 
-// Symbols that are trimmed away: the blank ones, or one alone.
+// Symbols that may stand in a run.
 pub enum Class {
     Blank,
+    Letter,
+    Digit,
+    Alnum,
+    // What a formula may hold: no foreign byte.
+    Formula,
+    // What a definition's LaTeX may hold: no `$` either.
+    Latex,
     Only(u8),
+    Except(u8),
 }

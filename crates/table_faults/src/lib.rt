@@ -1,4 +1,5 @@
 // Number 3: what makes a table faulty. The records are counted first, so that what follows looks at no more than 64.
+use symbols::Class;
 use table::Reading;
 use table::Record;
 use table::record_at;
@@ -90,25 +91,14 @@ fn is_faulty_name(name: &[u8]) -> bool
     if !symbols::is_letter(search::symbol(name, 0)) {
         return true;
     }
-    for i in 0..name.len() {
-        if !symbols::is_alnum(name[i]) {
-            return true;
-        }
-    }
-    false
+    !symbols::all_in(name, Class::Alnum)
 }
 
 // Whether a byte of the LaTeX is foreign or `$`.
 fn is_faulty_latex(latex: &[u8]) -> bool
     ensures { λ r. ⌜ r ≡ faultyLatex (now (latex .entry)) ⌝ }
 {
-    for i in 0..latex.len() {
-        let b = latex[i];
-        if symbols::is_foreign(b) | (b == b'$') {
-            return true;
-        }
-    }
-    false
+    !symbols::all_in(latex, Class::Latex)
 }
 
 // Whether a record from the place on has the name.

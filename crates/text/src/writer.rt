@@ -54,12 +54,12 @@ pub fn copy(work: &mut [u8], from: usize, n: usize, to: usize, cap: usize, count
     end
 }
 
-// The count after `n` symbols have been dropped from the end.
-pub fn pop(count: usize, n: usize) -> usize
-    ensures { λ r. ⌜ r ≡ count - n ⌝ }
+// The difference, or 0: the count after `b` of `a` symbols have been dropped from the end.
+pub fn saturating_sub(a: usize, b: usize) -> usize
+    ensures { λ r. ⌜ r ≡ a - b ⌝ }
 {
-    if n <= count {
-        return count - n;
+    if b <= a {
+        return a - b;
     }
     0
 }

@@ -12,37 +12,28 @@ use native.Mathlib.Omega.{arith}
 use Rattle.denominators.proofs.after_brackets.Statement.{statement}
 use Rattle.denominators.proofs.after_brackets.Tie as tie
 
-symbol-requires : tie.Need-symbol-requires
-symbol-requires c κs = search needs
-
-past-power-requires : tie.Need-past-power-requires
-past-power-requires c κs = search needs
-
-past-arguments-requires : tie.Need-past-arguments-requires
-past-arguments-requires c κs = search needs
-
-enum-known-end : tie.Need-enum-known-end
-enum-known-end c = search needs
-
-enum-told : tie.Need-enum-told
-enum-told c = search needs
-
 returns : tie.Need-returns
 returns c =
-    let a = c .before .before .before .before .before .before .args in
+    let at-symbol : tie.After-symbol = search in
+    let at-start : tie.Start = search in
+    let a = at-start .args in
     let s = a .s .now in
-    let sign = ap (is "^") (c .before .before .before .before .symbol .ensures ∙ sym (head-drop s (a .base))) in
-    let e = brackets-are s (a .start) (a .base) (c .before .before .before .past-power .result) (eqb (c .before .before .before .before .symbol .result) 94) sign (c .before .before .before .past-power .ensures .left) in
+    let sign = ap (is "^") (at-symbol .symbol .ensures ∙ sym (head-drop s (a .base))) in
+    let e = brackets-are s (a .start) (a .base) (c .before .before .before .past-power .result) (eqb (at-symbol .symbol .result) 94) sign (c .before .before .before .past-power .ensures .left) in
     record { from = omega arith; within = omega arith; left = sym (e ∙ ap (shorterThan (length (drop (a .start) s))) (ahead-nothing (c .before .before .past-arguments .ensures) (c .enum-told .given .1))) }
 
 returns-2 : tie.Need-returns-2
 returns-2 c =
-    let a = c .before .before .before .before .before .before .before .before .args in
+    let at-past-arguments : tie.After-past-arguments = search in
+    let at-past-power : tie.After-past-power = search in
+    let at-symbol : tie.After-symbol = search in
+    let at-start : tie.Start = search in
+    let a = at-start .args in
     let s = a .s .now in
-    let sign = ap (is "^") (c .before .before .before .before .before .before .symbol .ensures ∙ sym (head-drop s (a .base))) in
-    let e = brackets-are s (a .start) (a .base) (c .before .before .before .before .before .past-power .result) (eqb (c .before .before .before .before .before .before .symbol .result) 94) sign (c .before .before .before .before .before .past-power .ensures .left) in
+    let sign = ap (is "^") (at-symbol .symbol .ensures ∙ sym (head-drop s (a .base))) in
+    let e = brackets-are s (a .start) (a .base) (at-past-power .past-power .result) (eqb (at-symbol .symbol .result) 94) sign (at-past-power .past-power .ensures .left) in
     let end = c .before .before .end .given .0 .0 in
-    let found = ahead-is (c .before .before .before .before .past-arguments .ensures) (c .before .before .end .given .1) in
+    let found = ahead-is (at-past-arguments .past-arguments .ensures) (c .before .before .end .given .1) in
     let same = ap (λ n. length (drop n s)) (c .if1 .taken) in
     record {
       from = omega arith;
@@ -52,15 +43,19 @@ returns-2 c =
 
 returns-3 : tie.Need-returns-3
 returns-3 c =
-    let a = c .before .before .before .before .before .before .before .before .args in
+    let at-past-arguments : tie.After-past-arguments = search in
+    let at-past-power : tie.After-past-power = search in
+    let at-symbol : tie.After-symbol = search in
+    let at-start : tie.Start = search in
+    let a = at-start .args in
     let s = a .s .now in
-    let sign = ap (is "^") (c .before .before .before .before .before .before .symbol .ensures ∙ sym (head-drop s (a .base))) in
-    let e = brackets-are s (a .start) (a .base) (c .before .before .before .before .before .past-power .result) (eqb (c .before .before .before .before .before .before .symbol .result) 94) sign (c .before .before .before .before .before .past-power .ensures .left) in
+    let sign = ap (is "^") (at-symbol .symbol .ensures ∙ sym (head-drop s (a .base))) in
+    let e = brackets-are s (a .start) (a .base) (at-past-power .past-power .result) (eqb (at-symbol .symbol .result) 94) sign (at-past-power .past-power .ensures .left) in
     let end = c .before .before .end .given .0 .0 in
-    let at = ahead-found (c .before .before .before .before .past-arguments .ensures) (c .before .before .end .given .1) in
-    let found = ahead-is (c .before .before .before .before .past-arguments .ensures) (c .before .before .end .given .1) in
+    let at = ahead-found (at-past-arguments .past-arguments .ensures) (c .before .before .end .given .1) in
+    let found = ahead-is (at-past-arguments .past-arguments .ensures) (c .before .before .end .given .1) in
     let from = at .from in
-    let power = c .before .before .before .before .before .past-power .ensures .from in
+    let power = at-past-power .past-power .ensures .from in
     let within = at .within in
     let n = length-drop end s in
     let m = length-drop (a .start) s in
@@ -75,11 +70,11 @@ pub after-brackets-spec : {M : Type 1} → statement M
 after-brackets-spec =
     tie.close
     (tie.spec
-    symbol-requires
-    past-power-requires
-    past-arguments-requires
-    enum-known-end
-    enum-told
+    (λ c κs. search needs)
+    (λ c κs. search needs)
+    (λ c κs. search needs)
+    (λ c. search needs)
+    (λ c. search needs)
     returns
     returns-2
     returns-3)

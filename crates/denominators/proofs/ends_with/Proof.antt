@@ -8,35 +8,21 @@ use mathlib.Core.Path.{sym, ap, _∙_}
 use Rattle.denominators.proofs.ends_with.Statement.{statement}
 use Rattle.denominators.proofs.ends_with.Tie as tie
 
-pop-requires : tie.Need-pop-requires
-pop-requires c κs = search needs
-
-sub-starts-with : tie.Need-sub-starts-with
-sub-starts-with c = search needs
-
-part-starts-with-start : tie.Need-part-starts-with-start
-part-starts-with-start c = search needs
-
-part-starts-with-end : tie.Need-part-starts-with-end
-part-starts-with-end c = search needs
-
-starts-with-requires : tie.Need-starts-with-requires
-starts-with-requires c κs = search needs
-
 returns : tie.Need-returns
 returns c =
-    let s = c .before .before .before .before .before .args .s .now in
-    let w = c .before .before .before .before .before .args .pattern .now in
-    let start = c .before .before .pop .result in
-    c .starts-with .ensures ∙ ap (starts w) (rest-of start s ∙ ap (λ n. drop n s) (c .before .before .pop .ensures)) ∙ sym (ends-front w s)
+    let at-start : tie.Start = search in
+    let s = at-start .args .s .now in
+    let w = at-start .args .pattern .now in
+    let start = c .before .before .saturating-sub .result in
+    c .starts-with .ensures ∙ ap (starts w) (rest-of start s ∙ ap (λ n. drop n s) (c .before .before .saturating-sub .ensures)) ∙ sym (ends-front w s)
 
 pub ends-with-spec : {M : Type 1} → statement M
 ends-with-spec =
     tie.close
     (tie.spec
-    pop-requires
-    sub-starts-with
-    part-starts-with-start
-    part-starts-with-end
-    starts-with-requires
+    (λ c κs. search needs)
+    (λ c. search needs)
+    (λ c. search needs)
+    (λ c. search needs)
+    (λ c κs. search needs)
     returns)

@@ -9,27 +9,18 @@ use native.Mathlib.Omega.{arith}
 use Rattle.denominators.proofs.grouped_after.Statement.{statement}
 use Rattle.denominators.proofs.grouped_after.Tie as tie
 
-closed-after-requires : tie.Need-closed-after-requires
-closed-after-requires c κs = search needs
-
-enum-known-i : tie.Need-enum-known-i
-enum-known-i c = search needs
-
-enum-told : tie.Need-enum-told
-enum-told c = search needs
-
 returns : tie.Need-returns
-returns c = nothing-ahead (c .before .before .before .before .pre) (ap grouped (ahead-nothing (c .before .before .closed-after .ensures) (c .enum-told .given .1)))
+returns c =
+    let at-start : tie.Start = search in
+    nothing-ahead (at-start .pre) (ap grouped (ahead-nothing (c .before .before .closed-after .ensures) (c .enum-told .given .1)))
 
 past-factorials-requires : tie.Need-past-factorials-requires
 past-factorials-requires c κs = record { short = omega arith; within = ahead-found (c .before .before .before .closed-after .ensures) (c .before .i .given .1) .within }
 
-past-power-requires : tie.Need-past-power-requires
-past-power-requires c κs = search needs
-
 returns-2 : tie.Need-returns-2
 returns-2 c =
-    let group = c .before .before .before .before .before .closed-after .ensures in
+    let at-closed-after : tie.After-closed-after = search in
+    let group = at-closed-after .closed-after .ensures in
     let at = c .before .before .before .i .given .1 in
     let from = ahead-found group at .from in
     let signs = c .before .past-factorials .ensures in
@@ -40,10 +31,10 @@ pub grouped-after-spec : {M : Type 1} → statement M
 grouped-after-spec =
     tie.close
     (tie.spec
-    closed-after-requires
-    enum-known-i
-    enum-told
+    (λ c κs. search needs)
+    (λ c. search needs)
+    (λ c. search needs)
     returns
     past-factorials-requires
-    past-power-requires
+    (λ c κs. search needs)
     returns-2)

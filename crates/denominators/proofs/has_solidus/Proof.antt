@@ -7,29 +7,19 @@ use mathlib.Core.Path.{sym, ap, _∙_}
 use Rattle.denominators.proofs.has_solidus.Statement.{statement}
 use Rattle.denominators.proofs.has_solidus.Tie as tie
 
-slice-aggregate-find : tie.Need-slice-aggregate-find
-slice-aggregate-find c = search needs
-
-find-requires : tie.Need-find-requires
-find-requires c κs = search needs
-
-enum-known-k : tie.Need-enum-known-k
-enum-known-k c = search needs
-
-enum-told : tie.Need-enum-told
-enum-told c = search needs
-
 returns : tie.Need-returns
 returns c =
-    let s = c .before .before .before .before .before .args .s .now in
+    let at-start : tie.Start = search in
+    let s = at-start .args .s .now in
     sym (any-found solidus s ∙ ap isSome (finds-nothing (c .before .before .find .ensures) (c .enum-told .given .1)))
 
 returns-2 : tie.Need-returns-2
 returns-2 c =
-    let s = c .before .before .before .before .before .before .args .s .now in
+    let at-start : tie.Start = search in
+    let s = at-start .args .s .now in
     sym (any-found solidus s ∙ ap isSome (finds-at (c .before .before .before .find .ensures) (c .before .k .given .1)))
 
 pub has-solidus-spec : {M : Type 1} → statement M
 has-solidus-spec =
     tie.close
-    (tie.spec slice-aggregate-find find-requires enum-known-k enum-told returns returns-2)
+    (tie.spec (λ c. search needs) (λ c κs. search needs) (λ c. search needs) (λ c. search needs) returns returns-2)

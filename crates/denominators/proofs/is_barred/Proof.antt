@@ -1,64 +1,41 @@
 -- `denominators::is_barred` meets its contract, by what the jump passes. Assumes nothing.
 use Rattle.denominators.specs.After.{barred-group, barred-word}
-use Rattle.operands.specs.Places.{head-is, until-ahead}
-use Rattle.spec.specs.Symbols.{is, solidus, between, any, until}
-use Rattle.spec.specs.Words.{word}
+use Rattle.denominators.specs.Past.{sign-is, sign-not}
+use Rattle.operands.specs.Places.{until-ahead}
+use Rattle.spec.specs.Symbols.{solidus, any, until}
 use borrow.Author.Needs.{needs}
-use borrow.Author.Tests.{eq-eqb, ne-eqb}
 use lib.Dec.{eqb}
 use lib.ListN.{drop}
 use mathlib.Core.Path.{sym, ap, _∙_}
 use Rattle.denominators.proofs.is_barred.Statement.{statement}
 use Rattle.denominators.proofs.is_barred.Tie as tie
 
-symbol-requires : tie.Need-symbol-requires
-symbol-requires c κs = search needs
-
 returns : tie.Need-returns
-returns c =
-    let a = c .before .before .before .args in
-    sym (barred-group (drop (a .start) (a .s .now)) (head-is (is "(") (a .s .now) (a .start) (c .before .symbol .ensures) (eq-eqb _ _ (c .if1 .taken))))
-
-word-after-requires : tie.Need-word-after-requires
-word-after-requires c κs = search needs
-
-after-lvert-requires : tie.Need-after-lvert-requires
-after-lvert-requires c κs = search needs
-
-sub-has-solidus : tie.Need-sub-has-solidus
-sub-has-solidus c = search needs
-
-part-has-solidus-start : tie.Need-part-has-solidus-start
-part-has-solidus-start c = search needs
-
-part-has-solidus-end : tie.Need-part-has-solidus-end
-part-has-solidus-end c = search needs
-
-has-solidus-requires : tie.Need-has-solidus-requires
-has-solidus-requires c κs = search needs
+returns c = sym (barred-group _ (sign-is (c .before .before .before .pre) (c .before .symbol .ensures) (c .if1 .taken)))
 
 returns-2 : tie.Need-returns-2
 returns-2 c =
-    let a = c .before .before .before .before .before .before .before .args in
-    let s = a .s .now in
-    let word = c .before .before .before .word-after .ensures in
-    let jump = c .before .before .after-lvert .ensures in
-    let w = c .before .before .before .word-after .result in
-    let bare = head-is (is "(") s (a .start) (c .before .before .before .before .before .symbol .ensures) (ne-eqb _ _ (c .before .before .before .before .if1 .left)) in
-    let e = barred-word (drop (a .start) s) (drop w s) bare (word .left) in
-    let between = ap (until (drop w s)) (sym (jump .left)) ∙ until-ahead s w (c .before .before .after-lvert .result) (jump .from) (jump .within) in
-    c .has-solidus .ensures ∙ sym (e ∙ ap (any (λ x. eqb x solidus)) between)
+    let at-start : tie.Start = search in
+    let at-symbol : tie.After-symbol = search in
+    let else1 : tie.Else1 = search in
+    let s = at-start .args .s .now in
+    let word = c .before .before .before .word-after in
+    let jump = c .before .before .after-lvert in
+    let bare = sign-not (at-start .pre) (at-symbol .symbol .ensures) (else1 .if1 .left) in
+    let e = barred-word (drop (at-start .args .start) s) (drop (word .result) s) bare (word .ensures .left) in
+    let passed = ap (until (drop (word .result) s)) (sym (jump .ensures .left)) ∙ until-ahead s (word .result) (jump .result) (jump .ensures .from) (jump .ensures .within) in
+    c .has-solidus .ensures ∙ sym (e ∙ ap (any (λ x. eqb x solidus)) passed)
 
 pub is-barred-spec : {M : Type 1} → statement M
 is-barred-spec =
     tie.close
     (tie.spec
-    symbol-requires
+    (λ c κs. search needs)
     returns
-    word-after-requires
-    after-lvert-requires
-    sub-has-solidus
-    part-has-solidus-start
-    part-has-solidus-end
-    has-solidus-requires
+    (λ c κs. search needs)
+    (λ c κs. search needs)
+    (λ c. search needs)
+    (λ c. search needs)
+    (λ c. search needs)
+    (λ c κs. search needs)
     returns-2)

@@ -8,36 +8,17 @@ use native.Mathlib.Omega.{arith}
 use Rattle.denominators.proofs.rvert_from.Statement.{statement}
 use Rattle.denominators.proofs.rvert_from.Tie as tie
 
-sub-find : tie.Need-sub-find
-sub-find c = search needs
-
-part-find-start : tie.Need-part-find-start
-part-find-start c = search needs
-
-part-find-end : tie.Need-part-find-end
-part-find-end c = search needs
-
-slice-aggregate-find : tie.Need-slice-aggregate-find
-slice-aggregate-find c = search needs
-
-find-requires : tie.Need-find-requires
-find-requires c κs = search needs
-
-enum-known-k : tie.Need-enum-known-k
-enum-known-k c = search needs
-
-enum-told : tie.Need-enum-told
-enum-told c = search needs
-
 returns : tie.Need-returns
 returns c =
-    let a = c .before .before .before .before .before .before .args in
-    stays (c .before .before .before .before .before .before .pre) (rvert-nowhere (c .before .before .before .before .before .before .pre) (finds-rest (a .s .now) (a .start) (found (bytes "\\rvert")) (c .before .before .find .ensures)) (c .enum-told .given .1))
+    let at-start : tie.Start = search in
+    let a = at-start .args in
+    stays (at-start .pre) (rvert-nowhere (at-start .pre) (finds-rest (a .s .now) (a .start) (found (bytes "\\rvert")) (c .before .before .find .ensures)) (c .enum-told .given .1))
 
 returns-2 : tie.Need-returns-2
 returns-2 c =
-    let a = c .before .before .before .before .before .before .before .args in
-    rvert-at (c .before .before .before .before .before .before .before .pre) (finds-rest (a .s .now) (a .start) (found (bytes "\\rvert")) (c .before .before .before .find .ensures)) (c .before .k .given .1)
+    let at-start : tie.Start = search in
+    let a = at-start .args in
+    rvert-at (at-start .pre) (finds-rest (a .s .now) (a .start) (found (bytes "\\rvert")) (c .before .before .before .find .ensures)) (c .before .k .given .1)
 
 add-result : tie.Need-add-result
 add-result c = let w = returns-2 c .within in omega arith
@@ -49,13 +30,13 @@ pub rvert-from-spec : {M : Type 1} → statement M
 rvert-from-spec =
     tie.close
     (tie.spec
-    sub-find
-    part-find-start
-    part-find-end
-    slice-aggregate-find
-    find-requires
-    enum-known-k
-    enum-told
+    (λ c. search needs)
+    (λ c. search needs)
+    (λ c. search needs)
+    (λ c. search needs)
+    (λ c κs. search needs)
+    (λ c. search needs)
+    (λ c. search needs)
     returns
     add-result
     add-result-2

@@ -18,56 +18,61 @@ abbrev μ-loop : tie.MeasureT-loop
 loop-holds : tie.Need-loop-holds Inv-loop μ-loop
 loop-holds c = (omega arith, refl, record { so-far = refl; small = omega arith })
 
-shared-slice-read-b : tie.Need-shared-slice-read-b Inv-loop μ-loop
-shared-slice-read-b c = omega arith
-
 is-mark-requires : tie.Need-is-mark-requires Inv-loop μ-loop
 is-mark-requires c κs = tt
 
 returns : tie.Need-returns Inv-loop μ-loop
 returns c =
-    let l = c .before .before .before .before in
-    let s = l .before .before .args .s .now in
-    let i = l .loop .i in
-    let ends = l .loop .inv .1 in
+    let at-loop : tie.At-loop Inv-loop μ-loop = search in
+    let at-start : tie.Start Inv-loop μ-loop = search in
+    let s = at-start .args .s .now in
+    let i = at-loop .loop .i in
+    let ends = at-loop .loop .inv .1 in
     let more = c .before .before .before .loop-test .taken in
     let inside : i < length s = omega arith in
-    sym (reads-mark s i inside (l .loop .inv .2) (sym (c .before .is-mark .ensures) ∙ c .if1 .taken))
+    sym (reads-mark s i inside (at-loop .loop .inv .2) (sym (c .before .is-mark .ensures) ∙ c .if1 .taken))
 
 is-digit-requires : tie.Need-is-digit-requires Inv-loop μ-loop
 is-digit-requires c κs = tt
 
 returns-2 : tie.Need-returns-2 Inv-loop μ-loop
 returns-2 c =
-    let l = c .before .before .before .before .before .before in
-    let s = l .before .before .args .s .now in
-    let i = l .loop .i in
-    let ends = l .loop .inv .1 in
-    let more = c .before .before .before .before .before .loop-test .taken in
+    let in-loop : tie.In-loop Inv-loop μ-loop = search in
+    let at-loop : tie.At-loop Inv-loop μ-loop = search in
+    let at-start : tie.Start Inv-loop μ-loop = search in
+    let s = at-start .args .s .now in
+    let i = at-loop .loop .i in
+    let ends = at-loop .loop .inv .1 in
+    let more = in-loop .loop-test .taken in
     let inside : i < length s = omega arith in
     let unmarked = sym (c .before .before .before .is-mark .ensures) ∙ c .before .before .if1 .left in
-    sym (reads-other s i inside (l .loop .inv .2) unmarked (sym (c .before .is-digit .ensures) ∙ not-true (c .before .is-digit .result) (c .if2 .taken)))
+    sym (reads-other s i inside (at-loop .loop .inv .2) unmarked (sym (c .before .is-digit .ensures) ∙ not-true (c .before .is-digit .result) (c .if2 .taken)))
 
 returns-3 : tie.Need-returns-3 Inv-loop μ-loop
 returns-3 c =
-    let l = c .before .before .before .before .before .before .before in
-    let s = l .before .before .args .s .now in
-    let i = l .loop .i in
-    let ends = l .loop .inv .1 in
-    let more = c .before .before .before .before .before .before .loop-test .taken in
+    let at-is-mark : tie.After-is-mark Inv-loop μ-loop = search in
+    let in-loop : tie.In-loop Inv-loop μ-loop = search in
+    let at-loop : tie.At-loop Inv-loop μ-loop = search in
+    let at-start : tie.Start Inv-loop μ-loop = search in
+    let s = at-start .args .s .now in
+    let i = at-loop .loop .i in
+    let ends = at-loop .loop .inv .1 in
+    let more = in-loop .loop-test .taken in
     let inside : i < length s = omega arith in
-    let unmarked = sym (c .before .before .before .before .is-mark .ensures) ∙ c .before .before .before .if1 .left in
-    sym (reads-large s i inside (l .loop .inv .2) unmarked (c .if3 .taken))
+    let unmarked = sym (at-is-mark .is-mark .ensures) ∙ c .before .before .before .if1 .left in
+    sym (reads-large s i inside (at-loop .loop .inv .2) unmarked (c .if3 .taken))
 
 mul-v : tie.Need-mul-v Inv-loop μ-loop
 mul-v c =
-    let l = c .before .before .before .before .before .before .before in
-    let s = l .before .before .args .s .now in
-    let i = l .loop .i in
-    let ends = l .loop .inv .1 in
-    let more = c .before .before .before .before .before .before .loop-test .taken in
+    let in-loop : tie.In-loop Inv-loop μ-loop = search in
+    let at-loop : tie.At-loop Inv-loop μ-loop = search in
+    let at-start : tie.Start Inv-loop μ-loop = search in
+    let s = at-start .args .s .now in
+    let i = at-loop .loop .i in
+    let ends = at-loop .loop .inv .1 in
+    let more = in-loop .loop-test .taken in
     let inside : i < length s = omega arith in
-    let small = l .loop .inv .2 .small in
+    let small = at-loop .loop .inv .2 .small in
     omega arith
 
 wide-requires : tie.Need-wide-requires Inv-loop μ-loop
@@ -75,11 +80,13 @@ wide-requires c κs = tt
 
 sub-v : tie.Need-sub-v Inv-loop μ-loop
 sub-v c =
-    let l = c .before .before .before .before .before .before .before .before in
-    let s = l .before .before .args .s .now in
-    let i = l .loop .i in
-    let ends = l .loop .inv .1 in
-    let more = c .before .before .before .before .before .before .before .loop-test .taken in
+    let in-loop : tie.In-loop Inv-loop μ-loop = search in
+    let at-loop : tie.At-loop Inv-loop μ-loop = search in
+    let at-start : tie.Start Inv-loop μ-loop = search in
+    let s = at-start .args .s .now in
+    let i = at-loop .loop .i in
+    let ends = at-loop .loop .inv .1 in
+    let more = in-loop .loop-test .taken in
     let inside : i < length s = omega arith in
     let isdigit = sym (c .before .before .before .is-digit .ensures) ∙ not-false (c .before .before .before .is-digit .result) (c .before .before .if2 .left) in
     let range = digit-range (getD s i 0) isdigit in
@@ -90,41 +97,41 @@ sub-v c =
 
 add-v : tie.Need-add-v Inv-loop μ-loop
 add-v c =
-    let l = c .before .before .before .before .before .before .before .before in
-    let s = l .before .before .args .s .now in
-    let i = l .loop .i in
-    let ends = l .loop .inv .1 in
-    let more = c .before .before .before .before .before .before .before .loop-test .taken in
+    let in-loop : tie.In-loop Inv-loop μ-loop = search in
+    let at-loop : tie.At-loop Inv-loop μ-loop = search in
+    let at-start : tie.Start Inv-loop μ-loop = search in
+    let s = at-start .args .s .now in
+    let i = at-loop .loop .i in
+    let ends = at-loop .loop .inv .1 in
+    let more = in-loop .loop-test .taken in
     let inside : i < length s = omega arith in
     let isdigit = sym (c .before .before .before .is-digit .ensures) ∙ not-false (c .before .before .before .is-digit .result) (c .before .before .if2 .left) in
     let range = digit-range (getD s i 0) isdigit in
     let low = range .0 in
     let high = range .1 in
     let e = c .wide .ensures in
-    let small = l .loop .inv .2 .small in
+    let small = at-loop .loop .inv .2 .small in
     omega arith
-
-add-i : tie.Need-add-i Inv-loop μ-loop
-add-i c = omega arith
-
-loop-less : tie.Need-loop-less Inv-loop μ-loop
-loop-less c = omega arith
 
 loop-again : tie.Need-loop-again Inv-loop μ-loop
 loop-again c =
-    let l = c .before .before .before .before .before .before .before .before in
-    let s = l .before .before .args .s .now in
-    let i = l .loop .i in
-    let ends = l .loop .inv .1 in
-    let more = c .before .before .before .before .before .before .before .loop-test .taken in
+    let else1 : tie.Else1 Inv-loop μ-loop = search in
+    let at-is-mark : tie.After-is-mark Inv-loop μ-loop = search in
+    let in-loop : tie.In-loop Inv-loop μ-loop = search in
+    let at-loop : tie.At-loop Inv-loop μ-loop = search in
+    let at-start : tie.Start Inv-loop μ-loop = search in
+    let s = at-start .args .s .now in
+    let i = at-loop .loop .i in
+    let ends = at-loop .loop .inv .1 in
+    let more = in-loop .loop-test .taken in
     let inside : i < length s = omega arith in
-    let unmarked = sym (c .before .before .before .before .before .is-mark .ensures) ∙ c .before .before .before .before .if1 .left in
+    let unmarked = sym (at-is-mark .is-mark .ensures) ∙ else1 .if1 .left in
     let isdigit = sym (c .before .before .before .is-digit .ensures) ∙ not-false (c .before .before .before .is-digit .result) (c .before .before .if2 .left) in
     let range = digit-range (getD s i 0) isdigit in
     let low = range .0 in
     let high = range .1 in
     let e = c .wide .ensures .0 in
-    let next = reads-digit s i inside (l .loop .inv .2) unmarked isdigit (c .before .if3 .left) high in
+    let next = reads-digit s i inside (at-loop .loop .inv .2) unmarked isdigit (c .before .if3 .left) high in
     (omega arith, refl, rw e next)
 
 returns-4 : tie.Need-returns-4 Inv-loop μ-loop
@@ -142,7 +149,7 @@ digits-spec =
     Inv-loop
     μ-loop
     loop-holds
-    shared-slice-read-b
+    (λ c. omega arith)
     is-mark-requires
     returns
     is-digit-requires
@@ -152,7 +159,7 @@ digits-spec =
     wide-requires
     sub-v
     add-v
-    add-i
-    loop-less
+    (λ c. omega arith)
+    (λ c. omega arith)
     loop-again
     returns-4)

@@ -17,37 +17,30 @@ abbrev μ-loop : tie.MeasureT-loop
 loop-holds : tie.Need-loop-holds Inv-loop μ-loop
 loop-holds c = (omega arith, refl, record { so-far = refl })
 
-shared-slice-read-is-mark : tie.Need-shared-slice-read-is-mark Inv-loop μ-loop
-shared-slice-read-is-mark c = omega arith
-
 is-mark-requires : tie.Need-is-mark-requires Inv-loop μ-loop
 is-mark-requires c κs = tt
 
 returns : tie.Need-returns Inv-loop μ-loop
 returns c =
-    let l = c .before .before .before .before in
-    let s = l .before .before .args .s .now in
-    let i = l .loop .i in
-    let ends = l .loop .inv .1 in
+    let at-loop : tie.At-loop Inv-loop μ-loop = search in
+    let at-start : tie.Start Inv-loop μ-loop = search in
+    let s = at-start .args .s .now in
+    let i = at-loop .loop .i in
+    let ends = at-loop .loop .inv .1 in
     let more = c .before .before .before .loop-test .taken in
     let inside : i < length s = omega arith in
-    sym (has-here s i inside (l .loop .inv .2) (sym (c .before .is-mark .ensures) ∙ c .if1 .taken))
-
-add-i : tie.Need-add-i Inv-loop μ-loop
-add-i c = omega arith
-
-loop-less : tie.Need-loop-less Inv-loop μ-loop
-loop-less c = omega arith
+    sym (has-here s i inside (at-loop .loop .inv .2) (sym (c .before .is-mark .ensures) ∙ c .if1 .taken))
 
 loop-again : tie.Need-loop-again Inv-loop μ-loop
 loop-again c =
-    let l = c .before .before .before .before in
-    let s = l .before .before .args .s .now in
-    let i = l .loop .i in
-    let ends = l .loop .inv .1 in
+    let at-loop : tie.At-loop Inv-loop μ-loop = search in
+    let at-start : tie.Start Inv-loop μ-loop = search in
+    let s = at-start .args .s .now in
+    let i = at-loop .loop .i in
+    let ends = at-loop .loop .inv .1 in
     let more = c .before .before .before .loop-test .taken in
     let inside : i < length s = omega arith in
-    (omega arith, refl, has-on s i inside (l .loop .inv .2) (sym (c .before .is-mark .ensures) ∙ c .if1 .left))
+    (omega arith, refl, has-on s i inside (at-loop .loop .inv .2) (sym (c .before .is-mark .ensures) ∙ c .if1 .left))
 
 returns-2 : tie.Need-returns-2 Inv-loop μ-loop
 returns-2 c =
@@ -64,10 +57,10 @@ has-mark-spec =
     Inv-loop
     μ-loop
     loop-holds
-    shared-slice-read-is-mark
+    (λ c. omega arith)
     is-mark-requires
     returns
-    add-i
-    loop-less
+    (λ c. omega arith)
+    (λ c. omega arith)
     loop-again
     returns-2)

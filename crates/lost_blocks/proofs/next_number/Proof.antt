@@ -17,13 +17,11 @@ abbrev μ-loop : tie.MeasureT-loop
 loop-holds : tie.Need-loop-holds Inv-loop μ-loop
 loop-holds c = (omega arith, refl, record { so-far = refl })
 
-shared-slice-read-b : tie.Need-shared-slice-read-b Inv-loop μ-loop
-shared-slice-read-b c = omega arith
-
 returns : tie.Need-returns Inv-loop μ-loop
 returns c =
+    let at-start : tie.Start Inv-loop μ-loop = search in
     let l = c .before .before .before in
-    let s = l .before .args .s .now in
+    let s = at-start .args .s .now in
     let i = l .loop .i in
     let ends = l .loop .inv .1 in
     let more = c .before .before .loop-test .taken in
@@ -32,29 +30,25 @@ returns c =
 
 returns-2 : tie.Need-returns-2 Inv-loop μ-loop
 returns-2 c =
-    let l = c .before .before .before .before in
-    let s = l .before .args .s .now in
-    let i = l .loop .i in
-    let ends = l .loop .inv .1 in
+    let at-loop : tie.At-loop Inv-loop μ-loop = search in
+    let at-start : tie.Start Inv-loop μ-loop = search in
+    let s = at-start .args .s .now in
+    let i = at-loop .loop .i in
+    let ends = at-loop .loop .inv .1 in
     let more = c .before .before .before .loop-test .taken in
     let inside : i < length s = omega arith in
-    sym (looks-roman s i inside (l .loop .inv .2) (c .before .if1 .left) (c .if2 .taken))
-
-add-i : tie.Need-add-i Inv-loop μ-loop
-add-i c = omega arith
-
-loop-less : tie.Need-loop-less Inv-loop μ-loop
-loop-less c = omega arith
+    sym (looks-roman s i inside (at-loop .loop .inv .2) (c .before .if1 .left) (c .if2 .taken))
 
 loop-again : tie.Need-loop-again Inv-loop μ-loop
 loop-again c =
-    let l = c .before .before .before .before in
-    let s = l .before .args .s .now in
-    let i = l .loop .i in
-    let ends = l .loop .inv .1 in
+    let at-loop : tie.At-loop Inv-loop μ-loop = search in
+    let at-start : tie.Start Inv-loop μ-loop = search in
+    let s = at-start .args .s .now in
+    let i = at-loop .loop .i in
+    let ends = at-loop .loop .inv .1 in
     let more = c .before .before .before .loop-test .taken in
     let inside : i < length s = omega arith in
-    (omega arith, refl, looks-on s i inside (l .loop .inv .2) (c .before .if1 .left) (c .if2 .left))
+    (omega arith, refl, looks-on s i inside (at-loop .loop .inv .2) (c .before .if1 .left) (c .if2 .left))
 
 returns-3 : tie.Need-returns-3 Inv-loop μ-loop
 returns-3 c =
@@ -71,10 +65,10 @@ next-number-spec =
     Inv-loop
     μ-loop
     loop-holds
-    shared-slice-read-b
+    (λ c. omega arith)
     returns
     returns-2
-    add-i
-    loop-less
+    (λ c. omega arith)
+    (λ c. omega arith)
     loop-again
     returns-3)

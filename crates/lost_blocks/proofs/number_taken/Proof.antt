@@ -17,28 +17,14 @@ abbrev μ-loop : tie.MeasureT-loop
 loop-holds : tie.Need-loop-holds Inv-loop μ-loop
 loop-holds c = (omega arith, record { so-far = refl; a-slow = omega arith; r-slow = omega arith })
 
-shared-slice-read-b : tie.Need-shared-slice-read-b Inv-loop μ-loop
-shared-slice-read-b c = omega arith
-
-add-i : tie.Need-add-i Inv-loop μ-loop
-add-i c = omega arith
-
-sub-takes : tie.Need-sub-takes Inv-loop μ-loop
-sub-takes c = omega arith
-
-part-takes-start : tie.Need-part-takes-start Inv-loop μ-loop
-part-takes-start c = omega arith
-
-part-takes-end : tie.Need-part-takes-end Inv-loop μ-loop
-part-takes-end c = omega arith
-
 add-takes : tie.Need-add-takes Inv-loop μ-loop
 add-takes c =
-    let l = c .before .before .before .before in
-    let p = l .before .before .pre in
-    let s = l .before .before .args .s .now in
-    let i = l .loop .i in
-    let n = l .loop .inv .1 in
+    let at-loop : tie.At-loop Inv-loop μ-loop = search in
+    let at-start : tie.Start Inv-loop μ-loop = search in
+    let p = at-start .pre in
+    let s = at-start .args .s .now in
+    let i = at-loop .loop .i in
+    let n = at-loop .loop .inv .1 in
     let more = c .before .before .before .loop-test .taken in
     let a-slow = n .a-slow in
     let r-slow = n .r-slow in
@@ -48,23 +34,26 @@ add-takes c =
 
 takes-requires : tie.Need-takes-requires Inv-loop μ-loop
 takes-requires c κs =
-    let l = c .before .before .before .before in
-    let p = l .before .before .pre in
+    let at-loop : tie.At-loop Inv-loop μ-loop = search in
+    let at-start : tie.Start Inv-loop μ-loop = search in
+    let p = at-start .pre in
     let more = c .before .before .before .loop-test .taken in
-    let a-slow = l .loop .inv .1 .a-slow in
-    let r-slow = l .loop .inv .1 .r-slow in
+    let a-slow = at-loop .loop .inv .1 .a-slow in
+    let r-slow = at-loop .loop .inv .1 .r-slow in
     let short = p .0 in
     let few = p .1 in
     omega arith
 
 returns : tie.Need-returns Inv-loop μ-loop
 returns c =
-    let l = c .before .before .before .before .before .before in
-    let p = l .before .before .pre in
-    let s = l .before .before .args .s .now in
-    let i = l .loop .i in
-    let n = l .loop .inv .1 in
-    let more = c .before .before .before .before .before .loop-test .taken in
+    let in-loop : tie.In-loop Inv-loop μ-loop = search in
+    let at-loop : tie.At-loop Inv-loop μ-loop = search in
+    let at-start : tie.Start Inv-loop μ-loop = search in
+    let p = at-start .pre in
+    let s = at-start .args .s .now in
+    let i = at-loop .loop .i in
+    let n = at-loop .loop .inv .1 in
+    let more = in-loop .loop-test .taken in
     let a-slow = n .a-slow in
     let r-slow = n .r-slow in
     let short = p .0 in
@@ -73,52 +62,46 @@ returns c =
 
 add-a : tie.Need-add-a Inv-loop μ-loop
 add-a c =
-    let l = c .before .before .before .before .before .before in
-    let p = l .before .before .pre in
-    let s = l .before .before .args .s .now in
-    let i = l .loop .i in
-    let n = l .loop .inv .1 in
-    let more = c .before .before .before .before .before .loop-test .taken in
+    let in-loop : tie.In-loop Inv-loop μ-loop = search in
+    let at-loop : tie.At-loop Inv-loop μ-loop = search in
+    let at-start : tie.Start Inv-loop μ-loop = search in
+    let p = at-start .pre in
+    let s = at-start .args .s .now in
+    let i = at-loop .loop .i in
+    let n = at-loop .loop .inv .1 in
+    let more = in-loop .loop-test .taken in
     let a-slow = n .a-slow in
     let r-slow = n .r-slow in
     let short = p .0 in
     let few = p .1 in
     omega arith
 
-loop-less : tie.Need-loop-less Inv-loop μ-loop
-loop-less c = omega arith
-
 loop-again : tie.Need-loop-again Inv-loop μ-loop
 loop-again c =
-    let l = c .before .before .before .before .before .before in
-    let p = l .before .before .pre in
-    let s = l .before .before .args .s .now in
-    let i = l .loop .i in
-    let n = l .loop .inv .1 in
-    let more = c .before .before .before .before .before .loop-test .taken in
+    let in-loop : tie.In-loop Inv-loop μ-loop = search in
+    let at-loop : tie.At-loop Inv-loop μ-loop = search in
+    let at-start : tie.Start Inv-loop μ-loop = search in
+    let p = at-start .pre in
+    let s = at-start .args .s .now in
+    let i = at-loop .loop .i in
+    let n = at-loop .loop .inv .1 in
+    let more = in-loop .loop-test .taken in
     let a-slow = n .a-slow in
     let r-slow = n .r-slow in
     let short = p .0 in
     let few = p .1 in
     (omega arith, text-passed s i more n (c .before .before .before .if1 .taken) (sym (c .before .takes .ensures) ∙ c .if2 .left))
 
-sub-takes-2 : tie.Need-sub-takes-2 Inv-loop μ-loop
-sub-takes-2 c = omega arith
-
-part-takes-start-2 : tie.Need-part-takes-start-2 Inv-loop μ-loop
-part-takes-start-2 c = omega arith
-
-part-takes-end-2 : tie.Need-part-takes-end-2 Inv-loop μ-loop
-part-takes-end-2 c = omega arith
-
 add-takes-2 : tie.Need-add-takes-2 Inv-loop μ-loop
 add-takes-2 c =
-    let l = c .before .before .before .before .before in
-    let p = l .before .before .pre in
-    let s = l .before .before .args .s .now in
-    let i = l .loop .i in
-    let n = l .loop .inv .1 in
-    let more = c .before .before .before .before .loop-test .taken in
+    let in-loop : tie.In-loop Inv-loop μ-loop = search in
+    let at-loop : tie.At-loop Inv-loop μ-loop = search in
+    let at-start : tie.Start Inv-loop μ-loop = search in
+    let p = at-start .pre in
+    let s = at-start .args .s .now in
+    let i = at-loop .loop .i in
+    let n = at-loop .loop .inv .1 in
+    let more = in-loop .loop-test .taken in
     let a-slow = n .a-slow in
     let r-slow = n .r-slow in
     let short = p .0 in
@@ -127,70 +110,75 @@ add-takes-2 c =
 
 takes-requires-2 : tie.Need-takes-requires-2 Inv-loop μ-loop
 takes-requires-2 c κs =
-    let l = c .before .before .before .before .before in
-    let p = l .before .before .pre in
-    let more = c .before .before .before .before .loop-test .taken in
-    let a-slow = l .loop .inv .1 .a-slow in
-    let r-slow = l .loop .inv .1 .r-slow in
+    let in-loop : tie.In-loop Inv-loop μ-loop = search in
+    let at-loop : tie.At-loop Inv-loop μ-loop = search in
+    let at-start : tie.Start Inv-loop μ-loop = search in
+    let p = at-start .pre in
+    let more = in-loop .loop-test .taken in
+    let a-slow = at-loop .loop .inv .1 .a-slow in
+    let r-slow = at-loop .loop .inv .1 .r-slow in
     let short = p .0 in
     let few = p .1 in
     omega arith
 
 returns-2 : tie.Need-returns-2 Inv-loop μ-loop
 returns-2 c =
-    let l = c .before .before .before .before .before .before .before in
-    let p = l .before .before .pre in
-    let s = l .before .before .args .s .now in
-    let i = l .loop .i in
-    let n = l .loop .inv .1 in
-    let more = c .before .before .before .before .before .before .loop-test .taken in
+    let else1 : tie.Else1 Inv-loop μ-loop = search in
+    let in-loop : tie.In-loop Inv-loop μ-loop = search in
+    let at-loop : tie.At-loop Inv-loop μ-loop = search in
+    let at-start : tie.Start Inv-loop μ-loop = search in
+    let p = at-start .pre in
+    let s = at-start .args .s .now in
+    let i = at-loop .loop .i in
+    let n = at-loop .loop .inv .1 in
+    let more = in-loop .loop-test .taken in
     let a-slow = n .a-slow in
     let r-slow = n .r-slow in
     let short = p .0 in
     let few = p .1 in
-    sym (roman-taken s i more n (c .before .before .before .before .if1 .left) (c .before .before .before .if3 .taken) (sym (c .before .takes2 .ensures) ∙ c .if4 .taken))
+    sym (roman-taken s i more n (else1 .if1 .left) (c .before .before .before .if3 .taken) (sym (c .before .takes2 .ensures) ∙ c .if4 .taken))
 
 add-r : tie.Need-add-r Inv-loop μ-loop
 add-r c =
-    let l = c .before .before .before .before .before .before .before in
-    let p = l .before .before .pre in
-    let s = l .before .before .args .s .now in
-    let i = l .loop .i in
-    let n = l .loop .inv .1 in
-    let more = c .before .before .before .before .before .before .loop-test .taken in
+    let in-loop : tie.In-loop Inv-loop μ-loop = search in
+    let at-loop : tie.At-loop Inv-loop μ-loop = search in
+    let at-start : tie.Start Inv-loop μ-loop = search in
+    let p = at-start .pre in
+    let s = at-start .args .s .now in
+    let i = at-loop .loop .i in
+    let n = at-loop .loop .inv .1 in
+    let more = in-loop .loop-test .taken in
     let a-slow = n .a-slow in
     let r-slow = n .r-slow in
     let short = p .0 in
     let few = p .1 in
     omega arith
 
-loop-less-2 : tie.Need-loop-less-2 Inv-loop μ-loop
-loop-less-2 c = omega arith
-
 loop-again-2 : tie.Need-loop-again-2 Inv-loop μ-loop
 loop-again-2 c =
-    let l = c .before .before .before .before .before .before .before in
-    let p = l .before .before .pre in
-    let s = l .before .before .args .s .now in
-    let i = l .loop .i in
-    let n = l .loop .inv .1 in
-    let more = c .before .before .before .before .before .before .loop-test .taken in
+    let else1 : tie.Else1 Inv-loop μ-loop = search in
+    let in-loop : tie.In-loop Inv-loop μ-loop = search in
+    let at-loop : tie.At-loop Inv-loop μ-loop = search in
+    let at-start : tie.Start Inv-loop μ-loop = search in
+    let p = at-start .pre in
+    let s = at-start .args .s .now in
+    let i = at-loop .loop .i in
+    let n = at-loop .loop .inv .1 in
+    let more = in-loop .loop-test .taken in
     let a-slow = n .a-slow in
     let r-slow = n .r-slow in
     let short = p .0 in
     let few = p .1 in
-    (omega arith, roman-passed s i more n (c .before .before .before .before .if1 .left) (c .before .before .before .if3 .taken) (sym (c .before .takes2 .ensures) ∙ c .if4 .left))
-
-loop-less-3 : tie.Need-loop-less-3 Inv-loop μ-loop
-loop-less-3 c = omega arith
+    (omega arith, roman-passed s i more n (else1 .if1 .left) (c .before .before .before .if3 .taken) (sym (c .before .takes2 .ensures) ∙ c .if4 .left))
 
 loop-again-3 : tie.Need-loop-again-3 Inv-loop μ-loop
 loop-again-3 c =
-    let l = c .before .before .before .before in
-    let p = l .before .before .pre in
-    let s = l .before .before .args .s .now in
-    let i = l .loop .i in
-    let n = l .loop .inv .1 in
+    let at-loop : tie.At-loop Inv-loop μ-loop = search in
+    let at-start : tie.Start Inv-loop μ-loop = search in
+    let p = at-start .pre in
+    let s = at-start .args .s .now in
+    let i = at-loop .loop .i in
+    let n = at-loop .loop .inv .1 in
     let more = c .before .before .before .loop-test .taken in
     let a-slow = n .a-slow in
     let r-slow = n .r-slow in
@@ -212,26 +200,26 @@ number-taken-spec =
     Inv-loop
     μ-loop
     loop-holds
-    shared-slice-read-b
-    add-i
-    sub-takes
-    part-takes-start
-    part-takes-end
+    (λ c. omega arith)
+    (λ c. omega arith)
+    (λ c. omega arith)
+    (λ c. omega arith)
+    (λ c. omega arith)
     add-takes
     takes-requires
     returns
     add-a
-    loop-less
+    (λ c. omega arith)
     loop-again
-    sub-takes-2
-    part-takes-start-2
-    part-takes-end-2
+    (λ c. omega arith)
+    (λ c. omega arith)
+    (λ c. omega arith)
     add-takes-2
     takes-requires-2
     returns-2
     add-r
-    loop-less-2
+    (λ c. omega arith)
     loop-again-2
-    loop-less-3
+    (λ c. omega arith)
     loop-again-3
     returns-3)

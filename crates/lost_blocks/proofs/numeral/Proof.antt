@@ -13,7 +13,8 @@ is-mark-requires c κs = tt
 
 returns : tie.Need-returns
 returns c =
-    let s = c .before .before .before .before .args .s .now in
+    let at-start : tie.Start = search in
+    let s = at-start .args .s .now in
     let h = c .before .before .symbol .ensures in
     let e = sym (ap isMark h) ∙ sym (c .before .is-mark .ensures) ∙ c .if1 .taken in
     numeral-none s e
@@ -23,8 +24,10 @@ digits-requires c κs = tt
 
 returns-2 : tie.Need-returns-2
 returns-2 c =
-    let s = c .before .before .before .before .before .before .args .s .now in
-    let h = c .before .before .before .before .symbol .ensures in
+    let at-symbol : tie.After-symbol = search in
+    let at-start : tie.Start = search in
+    let s = at-start .args .s .now in
+    let h = at-symbol .symbol .ensures in
     let e = sym (ap isMark h) ∙ sym (c .before .before .before .is-mark .ensures) ∙ c .before .before .if1 .left in
     c .digits .ensures ∙ numeral-plain s e (λ q. c .before .if2 .taken (h ∙ q))
 
@@ -39,19 +42,28 @@ digits-requires-2 c κs = tt
 
 returns-3 : tie.Need-returns-3
 returns-3 c =
-    let s = c .before .before .before .before .before .before .before .before .before .args .s .now in
-    let h = c .before .before .before .before .before .before .before .symbol .ensures in
-    let e = sym (ap isMark h) ∙ sym (c .before .before .before .before .before .before .is-mark .ensures) ∙ c .before .before .before .before .before .if1 .left in
+    let else2 : tie.Else2 = search in
+    let else1 : tie.Else1 = search in
+    let at-is-mark : tie.After-is-mark = search in
+    let at-symbol : tie.After-symbol = search in
+    let at-start : tie.Start = search in
+    let s = at-start .args .s .now in
+    let h = at-symbol .symbol .ensures in
+    let e = sym (ap isMark h) ∙ sym (at-is-mark .is-mark .ensures) ∙ else1 .if1 .left in
     let h2 = c .before .before .before .symbol2 .ensures in
     let e2 = sym (ap isMark h2) ∙ sym (c .before .before .is-mark2 .ensures) ∙ c .before .if3 .taken in
-    let z = sym h ∙ c .before .before .before .before .if2 .left in
+    let z = sym h ∙ else2 .if2 .left in
     c .digits2 .ensures ∙ numeral-zero s e z e2
 
 returns-4 : tie.Need-returns-4
 returns-4 c =
-    let s = c .before .before .before .before .before .before .before .before .args .s .now in
-    let h = c .before .before .before .before .before .before .symbol .ensures in
-    let e = sym (ap isMark h) ∙ sym (c .before .before .before .before .before .is-mark .ensures) ∙ c .before .before .before .before .if1 .left in
+    let else1 : tie.Else1 = search in
+    let at-is-mark : tie.After-is-mark = search in
+    let at-symbol : tie.After-symbol = search in
+    let at-start : tie.Start = search in
+    let s = at-start .args .s .now in
+    let h = at-symbol .symbol .ensures in
+    let e = sym (ap isMark h) ∙ sym (at-is-mark .is-mark .ensures) ∙ else1 .if1 .left in
     let h2 = c .before .before .symbol2 .ensures in
     let e2 = sym (ap isMark h2) ∙ sym (c .before .is-mark2 .ensures) ∙ c .if3 .left in
     let z = sym h ∙ c .before .before .before .if2 .left in

@@ -10,47 +10,46 @@ use Rattle.lost_blocks.proofs.takes.Tie as tie
 numeral-requires : tie.Need-numeral-requires
 numeral-requires c κs = tt
 
-enum-known-t : tie.Need-enum-known-t
-enum-known-t c = search needs
-
-enum-told : tie.Need-enum-told
-enum-told c = search needs
-
 returns : tie.Need-returns
 returns c =
-    let a = c .before .before .before .before .args in
+    let at-start : tie.Start = search in
+    let a = at-start .args in
     let s = a .s .now in
     let j = first (order (a .a) (a .r) s) in
-    takes-none (a .k) j (c .before .before .before .before .pre) s (sym (c .before .before .numeral .ensures) ∙ c .enum-told .given .1)
+    takes-none (a .k) j (at-start .pre) s (sym (c .before .before .numeral .ensures) ∙ c .enum-told .given .1)
 
 next-number-requires : tie.Need-next-number-requires
 next-number-requires c κs = tt
 
 returns-2 : tie.Need-returns-2
 returns-2 c =
-    let a = c .before .before .before .before .before .before .before .args in
+    let at-numeral : tie.After-numeral = search in
+    let at-start : tie.Start = search in
+    let a = at-start .args in
     let s = a .s .now in
     let j = first (order (a .a) (a .r) s) in
     let t = c .before .before .before .t .given .0 .0 in
-    let read = sym (c .before .before .before .before .before .numeral .ensures) ∙ c .before .before .before .t .given .1 in
-    ap (λ n. leb t n) (c .next-number .ensures) ∙ takes-small (a .k) j (c .before .before .before .before .before .before .before .pre) s t read (c .before .if1 .taken)
+    let read = sym (at-numeral .numeral .ensures) ∙ c .before .before .before .t .given .1 in
+    ap (λ n. leb t n) (c .next-number .ensures) ∙ takes-small (a .k) j (at-start .pre) s t read (c .before .if1 .taken)
 
 returns-3 : tie.Need-returns-3
 returns-3 c =
-    let a = c .before .before .before .before .before .before .args in
+    let at-numeral : tie.After-numeral = search in
+    let at-start : tie.Start = search in
+    let a = at-start .args in
     let s = a .s .now in
     let j = first (order (a .a) (a .r) s) in
     let t = c .before .before .t .given .0 .0 in
-    let read = sym (c .before .before .before .before .numeral .ensures) ∙ c .before .before .t .given .1 in
-    takes-large (a .k) j (c .before .before .before .before .before .before .pre) s t read (c .if1 .left)
+    let read = sym (at-numeral .numeral .ensures) ∙ c .before .before .t .given .1 in
+    takes-large (a .k) j (at-start .pre) s t read (c .if1 .left)
 
 pub takes-spec : {M : Type 1} → statement M
 takes-spec =
     tie.close
     (tie.spec
     numeral-requires
-    enum-known-t
-    enum-told
+    (λ c. search needs)
+    (λ c. search needs)
     returns
     next-number-requires
     returns-2

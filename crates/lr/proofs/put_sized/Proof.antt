@@ -12,63 +12,63 @@ use Rattle.lr.proofs.put_sized.Tie as tie
 
 put-call-requires : tie.Need-put-call-requires
 put-call-requires c κs =
-    let at-pop : tie.After-pop = search in
+    let at-saturating-sub : tie.After-saturating-sub = search in
     let at-start : tie.Start = search in
-    let p = at-start .pre in let m = at-pop .pop .ensures in
-    (record { region = p .0 .region; small = omega arith }, (omega arith, apart-part (at-start .args .inside) (at-start .args .k + 1) (at-start .args .to) 8192 1 (at-pop .pop .result) (p .1 .1) (omega arith)))
+    let p = at-start .pre in let m = at-saturating-sub .saturating-sub .ensures in
+    (record { region = p .0 .region; small = omega arith }, (omega arith, apart-part (at-start .args .inside) (at-start .args .k + 1) (at-start .args .to) 8192 1 (at-saturating-sub .saturating-sub .result) (p .1 .1) (omega arith)))
 
 returns : tie.Need-returns
 returns c =
     let then1 : tie.Then1 = search in
-    let at-pop : tie.After-pop = search in
+    let at-saturating-sub : tie.After-saturating-sub = search in
     let at-start : tie.Start = search in
     let p = at-start .pre .1 .0 in
-    sized-by-first (at-start .args .inside) (at-start .args .k) (at-pop .pop .result) (at-start .args .first) 40 (omega arith) (at-pop .pop .ensures) (then1 .if1 .taken) refl (c .before .before .put-call .ensures)
+    sized-by-first (at-start .args .inside) (at-start .args .k) (at-saturating-sub .saturating-sub .result) (at-start .args .first) 40 (omega arith) (at-saturating-sub .saturating-sub .ensures) (then1 .if1 .taken) refl (c .before .before .put-call .ensures)
 
 put-call-requires-2 : tie.Need-put-call-requires-2
 put-call-requires-2 c κs =
-    let at-pop : tie.After-pop = search in
+    let at-saturating-sub : tie.After-saturating-sub = search in
     let at-start : tie.Start = search in
-    let p = at-start .pre in let m = at-pop .pop .ensures in
-    (record { region = p .0 .region; small = omega arith }, (omega arith, apart-part (at-start .args .inside) (at-start .args .k + 1) (at-start .args .to) 8192 1 (at-pop .pop .result) (p .1 .1) (omega arith)))
+    let p = at-start .pre in let m = at-saturating-sub .saturating-sub .ensures in
+    (record { region = p .0 .region; small = omega arith }, (omega arith, apart-part (at-start .args .inside) (at-start .args .k + 1) (at-start .args .to) 8192 1 (at-saturating-sub .saturating-sub .result) (p .1 .1) (omega arith)))
 
 returns-2 : tie.Need-returns-2
 returns-2 c =
     let then2 : tie.Then2 = search in
-    let at-pop : tie.After-pop = search in
+    let at-saturating-sub : tie.After-saturating-sub = search in
     let at-start : tie.Start = search in
     let p = at-start .pre .1 .0 in
-    sized-by-first (at-start .args .inside) (at-start .args .k) (at-pop .pop .result) (at-start .args .first) 124 (omega arith) (at-pop .pop .ensures) (then2 .if2 .taken) refl (c .before .before .put-call2 .ensures)
+    sized-by-first (at-start .args .inside) (at-start .args .k) (at-saturating-sub .saturating-sub .result) (at-start .args .first) 124 (omega arith) (at-saturating-sub .saturating-sub .ensures) (then2 .if2 .taken) refl (c .before .before .put-call2 .ensures)
 
 put-call-requires-3 : tie.Need-put-call-requires-3
 put-call-requires-3 c κs =
-    let at-pop : tie.After-pop = search in
+    let at-saturating-sub : tie.After-saturating-sub = search in
     let at-start : tie.Start = search in
-    let p = at-start .pre in let m = at-pop .pop .ensures in
-    (record { region = p .0 .region; small = omega arith }, (omega arith, apart-part (at-start .args .inside) (at-start .args .k + 1) (at-start .args .to) 8192 1 (at-pop .pop .result) (p .1 .1) (omega arith)))
+    let p = at-start .pre in let m = at-saturating-sub .saturating-sub .ensures in
+    (record { region = p .0 .region; small = omega arith }, (omega arith, apart-part (at-start .args .inside) (at-start .args .k + 1) (at-start .args .to) 8192 1 (at-saturating-sub .saturating-sub .result) (p .1 .1) (omega arith)))
 
 returns-3 : tie.Need-returns-3
 returns-3 c =
     let then3 : tie.Then3 = search in
-    let at-pop : tie.After-pop = search in
+    let at-saturating-sub : tie.After-saturating-sub = search in
     let at-start : tie.Start = search in
     let p = at-start .pre .1 .0 in
-    sized-by-first (at-start .args .inside) (at-start .args .k) (at-pop .pop .result) (at-start .args .first) 91 (omega arith) (at-pop .pop .ensures) (then3 .if3 .taken) refl (c .before .before .put-call3 .ensures)
+    sized-by-first (at-start .args .inside) (at-start .args .k) (at-saturating-sub .saturating-sub .result) (at-start .args .first) 91 (omega arith) (at-saturating-sub .saturating-sub .ensures) (then3 .if3 .taken) refl (c .before .before .put-call3 .ensures)
 
 put-call-requires-4 : tie.Need-put-call-requires-4
 put-call-requires-4 c κs =
-    let at-pop : tie.After-pop = search in
+    let at-saturating-sub : tie.After-saturating-sub = search in
     let at-start : tie.Start = search in
-    let p = at-start .pre in let m = at-pop .pop .ensures in
-    (record { region = p .0 .region; small = omega arith }, (omega arith, apart-part (at-start .args .inside) (at-start .args .k + 1) (at-start .args .to) 8192 1 (at-pop .pop .result) (p .1 .1) (omega arith)))
+    let p = at-start .pre in let m = at-saturating-sub .saturating-sub .ensures in
+    (record { region = p .0 .region; small = omega arith }, (omega arith, apart-part (at-start .args .inside) (at-start .args .k + 1) (at-start .args .to) 8192 1 (at-saturating-sub .saturating-sub .result) (p .1 .1) (omega arith)))
 
 returns-4 : tie.Need-returns-4
 returns-4 c =
     let then4 : tie.Then4 = search in
-    let at-pop : tie.After-pop = search in
+    let at-saturating-sub : tie.After-saturating-sub = search in
     let at-start : tie.Start = search in
     let p = at-start .pre .1 .0 in
-    sized-by-first (at-start .args .inside) (at-start .args .k) (at-pop .pop .result) (at-start .args .first) 123 (omega arith) (at-pop .pop .ensures) (then4 .if4 .taken) refl (c .before .before .put-call4 .ensures)
+    sized-by-first (at-start .args .inside) (at-start .args .k) (at-saturating-sub .saturating-sub .result) (at-start .args .first) 123 (omega arith) (at-saturating-sub .saturating-sub .ensures) (then4 .if4 .taken) refl (c .before .before .put-call4 .ensures)
 
 copy-requires : tie.Need-copy-requires
 copy-requires c κs =

@@ -1,7 +1,7 @@
 -- `numerators::find_fraction_part_before` meets its contract, by the last symbol. Assumes nothing.
 use Rattle.numerators.specs.Before.{before-brace, before-paren, before-bracket, before-word, before-nothing}
 use Rattle.operands.specs.Places.{nothing-behind, found-behind, behind-then, found-behind-then}
-use Rattle.closing.specs.Backward.{before-step, before-none}
+use Rattle.symbols.specs.Places.{before-step, before-none}
 use borrow.Author.Needs.{needs}
 use borrow.Author.Tests.{eq-eqb, ne-eqb}
 use mathlib.Core.Path.{refl}
@@ -12,42 +12,28 @@ use Rattle.numerators.proofs.find_fraction_part_before.Tie as tie
 returns : tie.Need-returns
 returns c = nothing-behind (before-nothing (before-none (c .before .before .args .s .now) (c .before .before .args .end) (omega arith)))
 
-sub-last : tie.Need-sub-last
-sub-last c = search needs
-
-shared-slice-read-b : tie.Need-shared-slice-read-b
-shared-slice-read-b c = search needs
-
-with-name-requires : tie.Need-with-name-requires
-with-name-requires c κs = search needs
-
 returns-2 : tie.Need-returns-2
 returns-2 c =
-    let a = c .before .before .before .before .before .args in
+    let at-start : tie.Start = search in
+    let a = at-start .args in
     found-behind-then (omega arith) (c .with-name .ensures) (before-brace (before-step (a .s .now) (a .end) (omega arith) (omega arith)) (eq-eqb _ _ (c .before .if2 .taken)))
-
-with-name-requires-2 : tie.Need-with-name-requires-2
-with-name-requires-2 c κs = search needs
 
 returns-3 : tie.Need-returns-3
 returns-3 c =
-    let a = c .before .before .before .before .before .before .args in
+    let at-start : tie.Start = search in
+    let a = at-start .args in
     found-behind-then (omega arith) (c .with-name2 .ensures) (before-paren (before-step (a .s .now) (a .end) (omega arith) (omega arith)) (ne-eqb _ _ (c .before .before .if2 .left)) (eq-eqb _ _ (c .before .if3 .taken)))
-
-with-name-requires-3 : tie.Need-with-name-requires-3
-with-name-requires-3 c κs = search needs
 
 returns-4 : tie.Need-returns-4
 returns-4 c =
-    let a = c .before .before .before .before .before .before .before .args in
+    let at-start : tie.Start = search in
+    let a = at-start .args in
     found-behind-then (omega arith) (c .with-name3 .ensures) (before-bracket (before-step (a .s .now) (a .end) (omega arith) (omega arith)) (ne-eqb _ _ (c .before .before .before .if2 .left)) (ne-eqb _ _ (c .before .before .if3 .left)) (eq-eqb _ _ (c .before .if4 .taken)))
-
-word-before-requires : tie.Need-word-before-requires
-word-before-requires c κs = search needs
 
 returns-5 : tie.Need-returns-5
 returns-5 c =
-    let a = c .before .before .before .before .before .before .before .args in
+    let at-start : tie.Start = search in
+    let a = at-start .args in
     found-behind (behind-then (omega arith) (c .word-before .ensures) refl) (before-word (before-step (a .s .now) (a .end) (omega arith) (omega arith)) (ne-eqb _ _ (c .before .before .before .if2 .left)) (ne-eqb _ _ (c .before .before .if3 .left)) (ne-eqb _ _ (c .before .if4 .left)))
 
 pub find-fraction-part-before-spec : {M : Type 1} → statement M
@@ -55,13 +41,13 @@ find-fraction-part-before-spec =
     tie.close
     (tie.spec
     returns
-    sub-last
-    shared-slice-read-b
-    with-name-requires
+    (λ c. search needs)
+    (λ c. search needs)
+    (λ c κs. search needs)
     returns-2
-    with-name-requires-2
+    (λ c κs. search needs)
     returns-3
-    with-name-requires-3
+    (λ c κs. search needs)
     returns-4
-    word-before-requires
+    (λ c κs. search needs)
     returns-5)

@@ -1,6 +1,6 @@
 -- `numerators::name_before` meets its contract. The loop's invariant: the search from here is the search from the start. Assumes nothing.
 use Rattle.numerators.specs.Before.{name-stop, name-more, name-group}
-use Rattle.closing.specs.Backward.{before, before-step, before-none}
+use Rattle.symbols.specs.Places.{before, before-step, before-none}
 use Rattle.spec.specs.Fractions.{nameBefore}
 use Prim.Native.Nat.{_≤_}
 use borrow.Author.Needs.{needs}
@@ -21,23 +21,12 @@ abbrev μ-loop : tie.MeasureT-loop
 loop-holds : tie.Need-loop-holds Inv-loop μ-loop
 loop-holds c = (omega arith, omega arith, refl)
 
-sub-b : tie.Need-sub-b Inv-loop μ-loop
-sub-b c = omega arith
-
-shared-slice-read-b : tie.Need-shared-slice-read-b Inv-loop μ-loop
-shared-slice-read-b c = omega arith
-
-is-name-symbol-requires : tie.Need-is-name-symbol-requires Inv-loop μ-loop
-is-name-symbol-requires c κs = search needs
-
 returns : tie.Need-returns Inv-loop μ-loop
 returns c =
-    let l = c .before .before .before .before in
+    let at-loop : tie.At-loop Inv-loop μ-loop = search in
+    let at-start : tie.Start Inv-loop μ-loop = search in
     let t = sym (c .before .is-name-symbol .ensures) ∙ not-true _ (c .if1 .taken) in
-    record { to = omega arith; left = sym (l .loop .inv .2 ∙ name-stop (before-step (c .before .before .before .before .before .before .args .s .now) (l .loop .i) (omega arith) (omega arith)) t) }
-
-sub-before-group : tie.Need-sub-before-group Inv-loop μ-loop
-sub-before-group c = omega arith
+    record { to = omega arith; left = sym (at-loop .loop .inv .2 ∙ name-stop (before-step (at-start .args .s .now) (at-loop .loop .i) (omega arith) (omega arith)) t) }
 
 before-group-requires : tie.Need-before-group-requires Inv-loop μ-loop
 before-group-requires c κs = record { short = omega arith; within = omega arith }
@@ -47,25 +36,21 @@ loop-less c = let to = c .before-group .ensures .to in omega arith
 
 loop-again : tie.Need-loop-again Inv-loop μ-loop
 loop-again c =
-    let l = c .before .before .before .before .before .before in
+    let at-loop : tie.At-loop Inv-loop μ-loop = search in
+    let at-start : tie.Start Inv-loop μ-loop = search in
     let group = c .before-group .ensures in
     let to = group .to in
     let t = sym (c .before .before .before .is-name-symbol .ensures) ∙ not-false _ (c .before .before .if1 .left) in
-    let here = before-step (c .before .before .before .before .before .before .before .before .args .s .now) (l .loop .i) (omega arith) (omega arith) in
-    (omega arith, omega arith, l .loop .inv .2 ∙ name-group here t (eq-eqb _ _ (c .before .if2 .taken)) ∙ ap (nameBefore 0) (sym (group .left)))
-
-sub-i : tie.Need-sub-i Inv-loop μ-loop
-sub-i c = omega arith
-
-loop-less-2 : tie.Need-loop-less-2 Inv-loop μ-loop
-loop-less-2 c = omega arith
+    let here = before-step (at-start .args .s .now) (at-loop .loop .i) (omega arith) (omega arith) in
+    (omega arith, omega arith, at-loop .loop .inv .2 ∙ name-group here t (eq-eqb _ _ (c .before .if2 .taken)) ∙ ap (nameBefore 0) (sym (group .left)))
 
 loop-again-2 : tie.Need-loop-again-2 Inv-loop μ-loop
 loop-again-2 c =
-    let l = c .before .before .before .before .before in
+    let at-loop : tie.At-loop Inv-loop μ-loop = search in
+    let at-start : tie.Start Inv-loop μ-loop = search in
     let t = sym (c .before .before .is-name-symbol .ensures) ∙ not-false _ (c .before .if1 .left) in
-    let here = before-step (c .before .before .before .before .before .before .before .args .s .now) (l .loop .i) (omega arith) (omega arith) in
-    (omega arith, omega arith, l .loop .inv .2 ∙ name-more here t (ne-eqb _ _ (c .if2 .left)))
+    let here = before-step (at-start .args .s .now) (at-loop .loop .i) (omega arith) (omega arith) in
+    (omega arith, omega arith, at-loop .loop .inv .2 ∙ name-more here t (ne-eqb _ _ (c .if2 .left)))
 
 returns-2 : tie.Need-returns-2 Inv-loop μ-loop
 unfolding nameBefore
@@ -81,15 +66,15 @@ name-before-spec =
     Inv-loop
     μ-loop
     loop-holds
-    sub-b
-    shared-slice-read-b
-    is-name-symbol-requires
+    (λ c. omega arith)
+    (λ c. omega arith)
+    (λ c κs. search needs)
     returns
-    sub-before-group
+    (λ c. omega arith)
     before-group-requires
     loop-less
     loop-again
-    sub-i
-    loop-less-2
+    (λ c. omega arith)
+    (λ c. omega arith)
     loop-again-2
     returns-2)

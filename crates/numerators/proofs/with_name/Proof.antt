@@ -7,15 +7,6 @@ use native.Mathlib.Omega.{arith}
 use Rattle.numerators.proofs.with_name.Statement.{statement}
 use Rattle.numerators.proofs.with_name.Tie as tie
 
-closed-before-requires : tie.Need-closed-before-requires
-closed-before-requires c κs = search needs
-
-enum-known-i : tie.Need-enum-known-i
-enum-known-i c = search needs
-
-enum-told : tie.Need-enum-told
-enum-told c = search needs
-
 returns : tie.Need-returns
 returns c = nothing-behind (ap withName (behind-nothing (c .before .before .closed-before .ensures) (c .enum-told .given .1)))
 
@@ -24,11 +15,12 @@ name-before-requires c κs = let to = behind-found (c .before .before .before .c
 
 returns-2 : tie.Need-returns-2
 returns-2 c =
-    let group = c .before .before .before .before .closed-before .ensures in
+    let at-closed-before : tie.After-closed-before = search in
+    let group = at-closed-before .closed-before .ensures in
     let at = c .before .before .i .given .1 in
     found-behind (behind-then (behind-found group at .to) (c .name-before .ensures) refl) (ap withName (behind-is group at))
 
 pub with-name-spec : {M : Type 1} → statement M
 with-name-spec =
     tie.close
-    (tie.spec closed-before-requires enum-known-i enum-told returns name-before-requires returns-2)
+    (tie.spec (λ c κs. search needs) (λ c. search needs) (λ c. search needs) returns name-before-requires returns-2)

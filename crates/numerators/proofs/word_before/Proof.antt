@@ -1,6 +1,6 @@
 -- `numerators::word_before` meets its contract. The loop's invariant: the search from here is the search from the start. Assumes nothing.
 use Rattle.numerators.specs.Before.{word-before-more, word-before-stop}
-use Rattle.closing.specs.Backward.{before, before-step, before-none, head-before}
+use Rattle.symbols.specs.Places.{before, before-step, before-none, head-before}
 use Rattle.spec.specs.Fractions.{inOperand, wordBefore}
 use Prim.Native.Nat.{_-_, _≤_, _<_}
 use borrow.Author.Needs.{needs}
@@ -21,47 +21,25 @@ abbrev μ-loop : tie.MeasureT-loop
 loop-holds : tie.Need-loop-holds Inv-loop μ-loop
 loop-holds c = (omega arith, omega arith, refl)
 
-shared-slice-read-is-in-operand : tie.Need-shared-slice-read-is-in-operand Inv-loop μ-loop
-shared-slice-read-is-in-operand c = omega arith
-
-sub-is-in-operand : tie.Need-sub-is-in-operand Inv-loop μ-loop
-sub-is-in-operand c = omega arith
-
-shared-slice-read-is-in-operand-2 : tie.Need-shared-slice-read-is-in-operand-2 Inv-loop μ-loop
-shared-slice-read-is-in-operand-2 c = omega arith
-
-sub-before : tie.Need-sub-before Inv-loop μ-loop
-sub-before c = omega arith
-
-before-requires : tie.Need-before-requires Inv-loop μ-loop
-before-requires c κs = search needs
-
-is-in-operand-requires : tie.Need-is-in-operand-requires Inv-loop μ-loop
-is-in-operand-requires c κs = search needs
-
 returns : tie.Need-returns Inv-loop μ-loop
 returns c =
-    let l = c .before .before .before .before .before .before in
-    let s = c .before .before .before .before .before .before .before .before .args .s .now in
-    let i = l .loop .i in
+    let at-loop : tie.At-loop Inv-loop μ-loop = search in
+    let at-start : tie.Start Inv-loop μ-loop = search in
+    let s = at-start .args .s .now in
+    let i = at-loop .loop .i in
     let z = head-before s (i - 1) (omega arith) ∙ sym (c .before .before .before2 .ensures) in
     let t = ap (inOperand (getD s i 0) (getD s (i - 1) 0)) z ∙ sym (c .before .is-in-operand .ensures) ∙ not-true _ (c .if1 .taken) in
-    record { to = omega arith; left = sym (l .loop .inv .2 ∙ word-before-stop (before-step s i (omega arith) (omega arith)) (getD s i 0) t) }
-
-sub-i : tie.Need-sub-i Inv-loop μ-loop
-sub-i c = omega arith
-
-loop-less : tie.Need-loop-less Inv-loop μ-loop
-loop-less c = omega arith
+    record { to = omega arith; left = sym (at-loop .loop .inv .2 ∙ word-before-stop (before-step s i (omega arith) (omega arith)) (getD s i 0) t) }
 
 loop-again : tie.Need-loop-again Inv-loop μ-loop
 loop-again c =
-    let l = c .before .before .before .before .before .before in
-    let s = c .before .before .before .before .before .before .before .before .args .s .now in
-    let i = l .loop .i in
+    let at-loop : tie.At-loop Inv-loop μ-loop = search in
+    let at-start : tie.Start Inv-loop μ-loop = search in
+    let s = at-start .args .s .now in
+    let i = at-loop .loop .i in
     let z = head-before s (i - 1) (omega arith) ∙ sym (c .before .before .before2 .ensures) in
     let t = ap (inOperand (getD s i 0) (getD s (i - 1) 0)) z ∙ sym (c .before .is-in-operand .ensures) ∙ not-false _ (c .if1 .left) in
-    (omega arith, omega arith, l .loop .inv .2 ∙ word-before-more (before-step s i (omega arith) (omega arith)) (getD s i 0) t)
+    (omega arith, omega arith, at-loop .loop .inv .2 ∙ word-before-more (before-step s i (omega arith) (omega arith)) (getD s i 0) t)
 
 returns-2 : tie.Need-returns-2 Inv-loop μ-loop
 unfolding wordBefore
@@ -78,14 +56,14 @@ word-before-spec =
     Inv-loop
     μ-loop
     loop-holds
-    shared-slice-read-is-in-operand
-    sub-is-in-operand
-    shared-slice-read-is-in-operand-2
-    sub-before
-    before-requires
-    is-in-operand-requires
+    (λ c. omega arith)
+    (λ c. omega arith)
+    (λ c. omega arith)
+    (λ c. omega arith)
+    (λ c κs. search needs)
+    (λ c κs. search needs)
     returns
-    sub-i
-    loop-less
+    (λ c. omega arith)
+    (λ c. omega arith)
     loop-again
     returns-2)

@@ -7,15 +7,6 @@ use Rattle.plain.proofs.plain_check.Tie as tie
 returns : tie.Need-returns
 returns c = checked (counts-long (c .before .before .args .s .now) (c .if1 .taken))
 
-sum-requires : tie.Need-sum-requires
-sum-requires c κs = search needs
-
-enum-known-p : tie.Need-enum-known-p
-enum-known-p c = search needs
-
-enum-told : tie.Need-enum-told
-enum-told c = search needs
-
 returns-2 : tie.Need-returns-2
 returns-2 c =
     let read = c .before .before in
@@ -23,15 +14,17 @@ returns-2 c =
 
 returns-3 : tie.Need-returns-3
 returns-3 c =
+    let at-sum : tie.After-sum = search in
+    let else1 : tie.Else1 = search in
     let p = c .before .before .before in
-    let read = p .before .before in
-    checked (counts-whole (rw (p .p .given .1) at (read .sum .ensures)) (read .before .if1 .left) (c .if2 .taken))
+    checked (counts-whole (rw (p .p .given .1) at (at-sum .sum .ensures)) (else1 .if1 .left) (c .if2 .taken))
 
 returns-4 : tie.Need-returns-4
 returns-4 c =
+    let at-sum : tie.After-sum = search in
+    let else1 : tie.Else1 = search in
     let p = c .before .before .before in
-    let read = p .before .before in
-    checked (counts-part (rw (p .p .given .1) at (read .sum .ensures)) (read .before .if1 .left) (c .if2 .left))
+    checked (counts-part (rw (p .p .given .1) at (at-sum .sum .ensures)) (else1 .if1 .left) (c .if2 .left))
 
 pub plain-check-spec : {M : Type 1} → statement M
-plain-check-spec = tie.close (tie.spec returns sum-requires enum-known-p enum-told returns-2 returns-3 returns-4)
+plain-check-spec = tie.close (tie.spec returns (λ c κs. search needs) (λ c. search needs) (λ c. search needs) returns-2 returns-3 returns-4)

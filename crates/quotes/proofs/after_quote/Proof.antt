@@ -9,18 +9,15 @@ use Rattle.quotes.proofs.after_quote.Statement.{statement}
 use Rattle.quotes.proofs.after_quote.Tie as tie
 
 -- the test of that symbol, as the definition has it
-test : (c : tie.After-is-alnum) → (let at-start : tie.Start = search in let x = getD (at-start .args .s .now) (c .before .before .skip .result .start) 0 in (c .is-alnum .result || is "\"" (c .before .symbol .result)) ≡ (alnum x || is "\"" x))
+test : (c : tie.After-is-alnum)
+    → (let x = getD (c .before .before .before .before .args .s .now) (c .before .before .run-end .result) 0 in (c .is-alnum .result || is "\"" (c .before .symbol .result)) ≡ (alnum x || is "\"" x))
 test c = ap (λ b. b || is "\"" (c .before .symbol .result)) (c .is-alnum .ensures) ∙ ap (λ x. alnum x || is "\"" x) (c .before .symbol .ensures)
 
 returns : tie.Need-returns
-returns c =
-    let at-start : tie.Start = search in
-    closed-gap (at-start .pre) (c .before .before .before .skip .ensures) (sym (test (c .before)) ∙ c .if1 .taken)
+returns c = closed-gap (c .before .before .before .run-end .ensures) (sym (test (c .before)) ∙ c .if1 .taken)
 
 returns-2 : tie.Need-returns-2
-returns-2 c =
-    let at-start : tie.Start = search in
-    closed-plain (at-start .pre) (c .before .before .before .skip .ensures) (sym (test (c .before)) ∙ c .if1 .left)
+returns-2 c = closed-plain (c .before .before .before .run-end .ensures) (sym (test (c .before)) ∙ c .if1 .left)
 
 pub after-quote-spec : {M : Type 1} → statement M
 after-quote-spec =

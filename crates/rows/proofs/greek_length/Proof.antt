@@ -6,15 +6,9 @@ use Rattle.rows.specs.Flat.{length-at}
 use Rattle.rows.proofs.greek_length.Statement.{statement}
 use Rattle.rows.proofs.greek_length.Tie as tie
 
-mul-result : tie.Need-mul-result
-mul-result c = search needs
-
-array-read-result : tie.Need-array-read-result
-array-read-result c = search needs
-
 returns : tie.Need-returns
 unfolding greekName
 returns c = length-at greekNames (c .args .row) (omega arith)
 
 pub greek-length-spec : {M : Type 1} → statement M
-greek-length-spec = tie.close (tie.spec mul-result array-read-result returns)
+greek-length-spec = tie.close (tie.spec (λ c. search needs) (λ c. search needs) returns)

@@ -18,26 +18,19 @@ abbrev μ-loop : tie.MeasureT-loop
 loop-holds : tie.Need-loop-holds Inv-loop μ-loop
 loop-holds c = (omega arith, refl)
 
-is-row-requires : tie.Need-is-row-requires Inv-loop μ-loop
-is-row-requires c κs = omega arith
-
 returns : tie.Need-returns Inv-loop μ-loop
 unfolding greekName
 returns c =
+    let at-start : tie.Start Inv-loop μ-loop = search in
     let l = c .before .before .before in
-    this-row greekNames (l .before .before .args .s .now) (l .loop .row) (omega arith) (sym (c .before .is-row .ensures) ∙ c .if1 .taken) ∙ l .loop .inv .1
-
-add-row : tie.Need-add-row Inv-loop μ-loop
-add-row c = search needs
-
-loop-less : tie.Need-loop-less Inv-loop μ-loop
-loop-less c = search needs
+    this-row greekNames (at-start .args .s .now) (l .loop .row) (omega arith) (sym (c .before .is-row .ensures) ∙ c .if1 .taken) ∙ l .loop .inv .1
 
 loop-again : tie.Need-loop-again Inv-loop μ-loop
 unfolding greekName
 loop-again c =
+    let at-start : tie.Start Inv-loop μ-loop = search in
     let l = c .before .before .before in
-    (omega arith, next-row greekNames (l .before .before .args .s .now) (l .loop .row) (omega arith) (sym (c .before .is-row .ensures) ∙ c .if1 .left) ∙ l .loop .inv .1)
+    (omega arith, next-row greekNames (at-start .args .s .now) (l .loop .row) (omega arith) (sym (c .before .is-row .ensures) ∙ c .if1 .left) ∙ l .loop .inv .1)
 
 returns-2 : tie.Need-returns-2 Inv-loop μ-loop
 returns-2 c =
@@ -45,4 +38,4 @@ returns-2 c =
     no-row greekNames (l .before .before .args .s .now) (l .loop .row) (omega arith) ∙ l .loop .inv .1
 
 pub is-greek-spec : {M : Type 1} → statement M
-is-greek-spec = tie.close (tie.spec Inv-loop μ-loop loop-holds is-row-requires returns add-row loop-less loop-again returns-2)
+is-greek-spec = tie.close (tie.spec Inv-loop μ-loop loop-holds (λ c κs. omega arith) returns (λ c. search needs) (λ c. search needs) loop-again returns-2)

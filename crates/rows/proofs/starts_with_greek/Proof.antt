@@ -14,43 +14,28 @@ fits : (row : ℕ) → row < 30 → length (greekName row) ≤ 8
 unfolding greekName
 fits row h = narrow-at 8 greekNames refl row h
 
-mul-at : tie.Need-mul-at
-mul-at c = search needs
-
-greek-length-requires : tie.Need-greek-length-requires
-greek-length-requires c κs = search needs
-
 add-end : tie.Need-add-end
 add-end c = omega (arith, fits _ (c .before .before .pre))
-
-sub-starts-with : tie.Need-sub-starts-with
-sub-starts-with c = search needs
-
-part-starts-with-start : tie.Need-part-starts-with-start
-part-starts-with-start c = search needs
 
 part-starts-with-end : tie.Need-part-starts-with-end
 part-starts-with-end c = omega (arith, fits _ (c .before .before .before .pre))
 
-starts-with-requires : tie.Need-starts-with-requires
-starts-with-requires c κs = search needs
-
 returns : tie.Need-returns
 unfolding greekName
 returns c =
-    let start = c .before .before .before .before .before in
+    let at-start : tie.Start = search in
     c .starts-with .ensures
-    ∙ ap (λ w. starts w (start .args .s .now)) (row-shown 8 greekNames refl (start .args .row) _ (start .pre) (c .before .before .before .greek-length .ensures))
+    ∙ ap (λ w. starts w (at-start .args .s .now)) (row-shown 8 greekNames refl (at-start .args .row) _ (at-start .pre) (c .before .before .before .greek-length .ensures))
 
 pub starts-with-greek-spec : {M : Type 1} → statement M
 starts-with-greek-spec =
     tie.close
     (tie.spec
-    mul-at
-    greek-length-requires
+    (λ c. search needs)
+    (λ c κs. search needs)
     add-end
-    sub-starts-with
-    part-starts-with-start
+    (λ c. search needs)
+    (λ c. search needs)
     part-starts-with-end
-    starts-with-requires
+    (λ c κs. search needs)
     returns)

@@ -5,17 +5,8 @@ use borrow.Author.Needs.{needs}
 use Rattle.search.proofs.before.Statement.{statement}
 use Rattle.search.proofs.before.Tie as tie
 
-returns : tie.Need-returns
-returns c = search needs
-
-sub-symbol : tie.Need-sub-symbol
-sub-symbol c = search needs
-
-symbol-requires : tie.Need-symbol-requires
-symbol-requires c κs = search needs
-
 returns-2 : tie.Need-returns-2
 returns-2 c = c .symbol .ensures ∙ getD-before (c .before .before .before .args .s .now) _ (c .before .if1 .left)
 
 pub before-spec : {M : Type 1} → statement M
-before-spec = tie.close (tie.spec returns sub-symbol symbol-requires returns-2)
+before-spec = tie.close (tie.spec (λ c. search needs) (λ c. search needs) (λ c κs. search needs) returns-2)

@@ -17,51 +17,34 @@ Inv-loop s pattern first i₀ i = (i ≤ length s) × (find pattern s ≡ find p
 abbrev μ-loop : tie.MeasureT-loop
 μ-loop s pattern first i₀ i = length s - i
 
-symbol-requires : tie.Need-symbol-requires Inv-loop μ-loop
-symbol-requires c κs = search needs
-
 loop-holds : tie.Need-loop-holds Inv-loop μ-loop
 loop-holds c = (omega arith, refl)
 
-sub-starts-with : tie.Need-sub-starts-with Inv-loop μ-loop
-sub-starts-with c = omega arith
-
-part-starts-with-start : tie.Need-part-starts-with-start Inv-loop μ-loop
-part-starts-with-start c = omega arith
-
-part-starts-with-end : tie.Need-part-starts-with-end Inv-loop μ-loop
-part-starts-with-end c = omega arith
-
-starts-with-requires : tie.Need-starts-with-requires Inv-loop μ-loop
-starts-with-requires c κs = search needs
-
 returns : tie.Need-returns Inv-loop μ-loop
 returns c =
-    let l = c .before .before .before .before in
-    let a = c .before .before .before .before .before .before .before .before .args in
-    let met = sym (c .before .starts-with .ensures ∙ ap (starts (a .pattern .now)) (rest-of (l .loop .i) (a .s .now))) ∙ c .if1 .taken in
-    record { within = omega arith; found = sym (l .loop .inv .1 ∙ find-here _ (drop (l .loop .i) (a .s .now)) (simp length-drop (omega arith)) met) }
-
-add-seek : tie.Need-add-seek Inv-loop μ-loop
-add-seek c = omega arith
-
-seek-requires : tie.Need-seek-requires Inv-loop μ-loop
-seek-requires c κs = omega arith
+    let at-loop : tie.At-loop Inv-loop μ-loop = search in
+    let at-start : tie.Start Inv-loop μ-loop = search in
+    let a = at-start .args in
+    let met = sym (c .before .starts-with .ensures ∙ ap (starts (a .pattern .now)) (rest-of (at-loop .loop .i) (a .s .now))) ∙ c .if1 .taken in
+    record { within = omega arith; found = sym (at-loop .loop .inv .1 ∙ find-here _ (drop (at-loop .loop .i) (a .s .now)) (simp length-drop (omega arith)) met) }
 
 loop-less : tie.Need-loop-less Inv-loop μ-loop
 loop-less c = let after = c .seek .ensures .passed .after in let within = c .seek .ensures .passed .within in omega arith
 
 loop-again : tie.Need-loop-again Inv-loop μ-loop
 loop-again c =
-    let l = c .before .before .before .before .before in
-    let a = c .before .before .before .before .before .before .before .before .before .args in
-    let other = sym (c .before .before .starts-with .ensures ∙ ap (starts (a .pattern .now)) (rest-of (l .loop .i) (a .s .now))) ∙ c .before .if1 .left in
-    (c .seek .ensures .passed .within, l .loop .inv .1 ∙ find-passed (a .pattern .now) (a .s .now) (c .before .before .before .before .before .before .symbol .ensures) other (omega arith) (c .seek .ensures .passed))
+    let at-loop : tie.At-loop Inv-loop μ-loop = search in
+    let at-symbol : tie.After-symbol Inv-loop μ-loop = search in
+    let at-start : tie.Start Inv-loop μ-loop = search in
+    let a = at-start .args in
+    let other = sym (c .before .before .starts-with .ensures ∙ ap (starts (a .pattern .now)) (rest-of (at-loop .loop .i) (a .s .now))) ∙ c .before .if1 .left in
+    (c .seek .ensures .passed .within, at-loop .loop .inv .1 ∙ find-passed (a .pattern .now) (a .s .now) (at-symbol .symbol .ensures) other (omega arith) (c .seek .ensures .passed))
 
 returns-2 : tie.Need-returns-2 Inv-loop μ-loop
 returns-2 c =
+    let at-start : tie.Start Inv-loop μ-loop = search in
     let l = c .before in
-    record { within = omega arith; found = sym (l .loop .inv .1 ∙ find-end _ (c .before .before .before .before .before .args .s .now) (l .loop .i) (omega arith)) }
+    record { within = omega arith; found = sym (l .loop .inv .1 ∙ find-end _ (at-start .args .s .now) (l .loop .i) (omega arith)) }
 
 pub find-spec : {M : Type 1} → statement M
 find-spec =
@@ -69,15 +52,15 @@ find-spec =
     (tie.spec
     Inv-loop
     μ-loop
-    symbol-requires
+    (λ c κs. search needs)
     loop-holds
-    sub-starts-with
-    part-starts-with-start
-    part-starts-with-end
-    starts-with-requires
+    (λ c. omega arith)
+    (λ c. omega arith)
+    (λ c. omega arith)
+    (λ c κs. search needs)
     returns
-    add-seek
-    seek-requires
+    (λ c. omega arith)
+    (λ c κs. omega arith)
     loop-less
     loop-again
     returns-2)

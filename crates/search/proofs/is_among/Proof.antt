@@ -1,10 +1,10 @@
 -- `search::is_among` meets its contract. The loop's invariant: what was found, or the symbols from i on, decide. Assumes nothing.
 use Prim.Native.Nat.{_-_, _≤_}
-use mathlib.Core.Path.{_≡_, refl, sym, ap, _∙_}
+use mathlib.Core.Path.{_≡_, refl, sym, _∙_}
 use mathlib.Core.Bool.{_||_}
 use native.Mathlib.Omega.{arith}
 use lib.Dec.{eqb}
-use lib.ListN.{length, drop}
+use lib.ListN.{drop}
 use Rattle.spec.specs.Symbols.{any}
 use Rattle.search.specs.Search.{any-met, any-all}
 use Rattle.search.proofs.is_among.Statement.{statement}
@@ -21,12 +21,6 @@ loop-holds c = (omega arith, refl)
 
 shared-slice-read-among : tie.Need-shared-slice-read-among Inv-loop μ-loop
 shared-slice-read-among c = let l = c .before .before .before .pre in omega arith
-
-add-i : tie.Need-add-i Inv-loop μ-loop
-add-i c = omega arith
-
-loop-less : tie.Need-loop-less Inv-loop μ-loop
-loop-less c = omega arith
 
 loop-again : tie.Need-loop-again Inv-loop μ-loop
 loop-again c =
@@ -46,7 +40,7 @@ is-among-spec =
     μ-loop
     loop-holds
     shared-slice-read-among
-    add-i
-    loop-less
+    (λ c. omega arith)
+    (λ c. omega arith)
     loop-again
     returns)

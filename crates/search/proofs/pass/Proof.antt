@@ -22,15 +22,6 @@ loop-holds c = passed-none (c .before .pre)
 sub-loop : tie.Need-sub-loop Inv-loop μ-loop
 sub-loop c = c .loop .inv .within
 
-add-end : tie.Need-add-end Inv-loop μ-loop
-add-end c = omega arith
-
-sub-is-among : tie.Need-sub-is-among Inv-loop μ-loop
-sub-is-among c = omega arith
-
-part-is-among-start : tie.Need-part-is-among-start Inv-loop μ-loop
-part-is-among-start c = omega arith
-
 part-is-among-end : tie.Need-part-is-among-end Inv-loop μ-loop
 part-is-among-end c = let w = c .before .loop .inv .within in omega arith
 
@@ -38,40 +29,38 @@ is-among-requires : tie.Need-is-among-requires Inv-loop μ-loop
 is-among-requires c κs = let w = c .before .before .loop .inv .within in simp (length-take, length-drop) (omega arith)
 
 returns : tie.Need-returns Inv-loop μ-loop
-returns c = c .before .before .before .before .loop .inv
+returns c =
+    let at-loop : tie.At-loop Inv-loop μ-loop = search in
+    at-loop .loop .inv
 
 loop-less : tie.Need-loop-less Inv-loop μ-loop
-loop-less c = let w = c .before .before .before .before .loop .inv .within in omega arith
+loop-less c =
+    let at-loop : tie.At-loop Inv-loop μ-loop = search in
+    let w = at-loop .loop .inv .within in omega arith
 
 loop-again : tie.Need-loop-again Inv-loop μ-loop
 loop-again c =
-    let a = c .before .before .before .before .before .before .args in let l = c .before .before .before .before .loop in let w = l .inv .within in
+    let at-loop : tie.At-loop Inv-loop μ-loop = search in
+    let at-start : tie.Start Inv-loop μ-loop = search in
+    let a = at-start .args in let l = at-loop .loop in let w = l .inv .within in
     passed-part 8 (l .k) (l .inv) (omega arith) (omega arith) (omega arith) (ap (any (λ x. eqb x (a .b))) (sym (whole-part (l .k) 8 (a .s .now))) ∙ sym (c .before .is-among .ensures) ∙ c .if1 .left)
 
 returns-2 : tie.Need-returns-2 Inv-loop μ-loop
 returns-2 c = c .before .before .loop .inv
 
-sub-last : tie.Need-sub-last Inv-loop μ-loop
-sub-last c = omega arith
-
-sub-is-among-2 : tie.Need-sub-is-among-2 Inv-loop μ-loop
-sub-is-among-2 c = omega arith
-
-part-is-among-start-2 : tie.Need-part-is-among-start-2 Inv-loop μ-loop
-part-is-among-start-2 c = omega arith
-
-part-is-among-end-2 : tie.Need-part-is-among-end-2 Inv-loop μ-loop
-part-is-among-end-2 c = omega arith
-
 is-among-requires-2 : tie.Need-is-among-requires-2 Inv-loop μ-loop
 is-among-requires-2 c κs = simp (length-take, length-drop) (omega arith)
 
 returns-3 : tie.Need-returns-3 Inv-loop μ-loop
-returns-3 c = c .before .before .before .before .before .loop .inv
+returns-3 c =
+    let at-loop : tie.At-loop Inv-loop μ-loop = search in
+    at-loop .loop .inv
 
 returns-4 : tie.Need-returns-4 Inv-loop μ-loop
 returns-4 c =
-    let a = c .before .before .before .before .before .before .before .args in let l = c .before .before .before .before .before .loop in let w = l .inv .within in
+    let at-loop : tie.At-loop Inv-loop μ-loop = search in
+    let at-start : tie.Start Inv-loop μ-loop = search in
+    let a = at-start .args in let l = at-loop .loop in let w = l .inv .within in
     let long : length (a .s .now) - 8 + 8 ≡ length (a .s .now) = omega arith in
     let eight : length (a .s .now) - (length (a .s .now) - 8) ≡ 8 = omega arith in
     subst (Passed (a .s .now) (a .i) (a .b)) long
@@ -86,19 +75,19 @@ pass-spec =
     μ-loop
     loop-holds
     sub-loop
-    add-end
-    sub-is-among
-    part-is-among-start
+    (λ c. omega arith)
+    (λ c. omega arith)
+    (λ c. omega arith)
     part-is-among-end
     is-among-requires
     returns
     loop-less
     loop-again
     returns-2
-    sub-last
-    sub-is-among-2
-    part-is-among-start-2
-    part-is-among-end-2
+    (λ c. omega arith)
+    (λ c. omega arith)
+    (λ c. omega arith)
+    (λ c. omega arith)
     is-among-requires-2
     returns-3
     returns-4)

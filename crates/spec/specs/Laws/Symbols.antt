@@ -10,7 +10,7 @@ use lib.Dec.{eqb}
 use lib.ListN.{length, getD, take, drop, drop-of-length-le}
 use lib.Seq.{drop-cons}
 use borrow.Author.Tests.{eqb-true, eq-eqb, ne-eqb}
-use Rattle.spec.specs.Symbols.{head, past, all, any, until, starts, find}
+use Rattle.spec.specs.Symbols.{head, past, any, until, starts, find}
 
 -- ---- places
 pub drop-step : (s : List ℕ) (i : ℕ) → i < length s → drop i s ≡ getD s i 0 ∷ drop (i + 1) s
@@ -33,15 +33,6 @@ past-drop s i = rw (add-one i) (go s i)
 
 -- ---- a test of each symbol of a text, from a place on
 module _ (f : ℕ → Bool) (s : List ℕ) (i : ℕ) where
-  pub all-more : i < length s → f (getD s i 0) ≡ true → all f (drop i s) ≡ all f (drop (i + 1) s)
-  all-more h e = rw (drop-step s i h, all, e)
-
-  pub all-stop : i < length s → f (getD s i 0) ≡ false → all f (drop i s) ≡ false
-  all-stop h e = rw (drop-step s i h, all, e)
-
-  pub all-end : length s ≤ i → all f (drop i s) ≡ true
-  all-end h = rw (drop-of-length-le s h)
-
   pub any-more : i < length s → f (getD s i 0) ≡ false → any f (drop i s) ≡ any f (drop (i + 1) s)
   any-more h e = rw (drop-step s i h, any, e)
 

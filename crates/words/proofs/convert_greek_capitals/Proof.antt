@@ -9,19 +9,13 @@ use borrow.Author.Needs.{needs}
 use Rattle.words.proofs.convert_greek_capitals.Statement.{statement}
 use Rattle.words.proofs.convert_greek_capitals.Tie as tie
 
-slice-aggregate-apply-rows : tie.Need-slice-aggregate-apply-rows
-slice-aggregate-apply-rows c = search needs
-
 apply-rows-requires : tie.Need-apply-rows-requires
 unfolding fairTable
 apply-rows-requires c κs = (c .before .before .before .pre, (within-none (c .before .before .before .args .text) (c .before .before .before .pre), refl))
-
-same-length : tie.Need-same-length
-same-length c = search needs
 
 returns : tie.Need-returns
 unfolding rowsOf
 returns c = staged-alike (convertGreekCapitals) (λ s. rows-capital greekCapitals s) (c .before .before .apply-rows .ensures .staged)
 
 pub convert-greek-capitals-spec : {M : Type 1} → statement M
-convert-greek-capitals-spec = tie.close (tie.spec slice-aggregate-apply-rows apply-rows-requires same-length returns)
+convert-greek-capitals-spec = tie.close (tie.spec (λ c. search needs) apply-rows-requires (λ c. search needs) returns)

@@ -1,5 +1,5 @@
 -- `closing::backward::find_closer_back` meets its contract. The loop's invariant: the symbols passed have not closed the bracket, and those before them decide. Assumes nothing.
-use Rattle.closing.specs.Backward.{before, before-step, before-none, before-all}
+use Rattle.symbols.specs.Places.{before, before-step, before-none, before-all}
 use Rattle.closing.specs.Closing.{closeFrom, opener-kept, closer-kept, depth-stepped, close-here, close-past, close-deep, depth-more}
 use Rattle.spec.specs.Closing.{close}
 use lib.ListN.{length, getD}

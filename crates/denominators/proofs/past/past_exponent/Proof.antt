@@ -1,69 +1,57 @@
 -- `denominators::past::past_exponent` meets its contract, by the first symbol that is left. Assumes nothing.
-use Rattle.denominators.specs.Past.{exponent-group, exponent-one, exponent-none}
+use Rattle.denominators.specs.Past.{sign-place, sign-is, sign-not, exponent-group, exponent-one, exponent-none}
 use Rattle.operands.specs.Places.{stays, ahead-then, symbol-within, head-is}
 use Rattle.spec.specs.Closing.{findMatchingBrace, orEnd}
 use Rattle.spec.specs.Laws.Symbols.{past-drop}
 use Rattle.spec.specs.Symbols.{is, alnum}
 use borrow.Author.Needs.{needs}
-use borrow.Author.Tests.{eq-eqb, ne-eqb}
 use lib.ListN.{drop}
-use mathlib.Core.Bool.{_||_}
+use mathlib.Core.Bool.{Bool, _||_}
 use mathlib.Core.Path.{refl, sym, ap, _∙_}
+use Prim.Native.Nat.{ℕ}
 use native.Mathlib.Omega.{arith}
 use Rattle.denominators.proofs.past.past_exponent.Statement.{statement}
 use Rattle.denominators.proofs.past.past_exponent.Tie as tie
 
-symbol-requires : tie.Need-symbol-requires
-symbol-requires c κs = search needs
-
-add-past-group : tie.Need-add-past-group
-add-past-group c = search needs
+abbrev single : ℕ → Bool
+single x = alnum x || is "-" x
 
 past-group-requires : tie.Need-past-group-requires
-past-group-requires c κs =
-    let a = c .before .before .before .args in
-    let w = symbol-within (is "{") refl (a .s .now) (a .start) (ap (is "{") (sym (c .before .symbol .ensures)) ∙ eq-eqb _ _ (c .if1 .taken)) in
-    record { short = omega arith; within = omega arith }
+past-group-requires c κs = sign-place (c .before .before .before .pre) (c .before .symbol .ensures) (c .if1 .taken) (omega arith)
 
 returns : tie.Need-returns
 returns c =
-    let a = c .before .before .before .before .args in
-    let e = exponent-group (drop (a .start) (a .s .now)) (head-is (is "{") (a .s .now) (a .start) (c .before .before .symbol .ensures) (eq-eqb _ _ (c .before .if1 .taken))) in
-    ahead-then (omega arith) (c .past-group .ensures) (e ∙ ap (λ l. orEnd (findMatchingBrace l)) (past-drop (a .s .now) (a .start)))
-
-is-exponent-symbol-requires : tie.Need-is-exponent-symbol-requires
-is-exponent-symbol-requires c κs = search needs
-
-add-result : tie.Need-add-result
-add-result c = search needs
+    let at-start : tie.Start = search in
+    let e = exponent-group (drop (at-start .args .start) (at-start .args .s .now)) (sign-is (at-start .pre) (c .before .before .symbol .ensures) (c .before .if1 .taken)) in
+    ahead-then (omega arith) (c .past-group .ensures) (e ∙ ap (λ l. orEnd (findMatchingBrace l)) (past-drop (at-start .args .s .now) (at-start .args .start)))
 
 returns-2 : tie.Need-returns-2
 returns-2 c =
-    let a = c .before .before .before .before .before .args in
+    let at-start : tie.Start = search in
+    let s = at-start .args .s .now in let start = at-start .args .start in
+    let read = c .before .before .before .symbol .ensures in
     let one = sym (c .before .is-exponent-symbol .ensures) ∙ c .if2 .taken in
-    let w = symbol-within (λ x. alnum x || is "-" x) refl (a .s .now) (a .start) (ap (λ x. alnum x || is "-" x) (sym (c .before .before .before .symbol .ensures)) ∙ one) in
-    let e =
-    exponent-one (drop (a .start) (a .s .now)) (head-is (is "{") (a .s .now) (a .start) (c .before .before .before .symbol .ensures) (ne-eqb _ _ (c .before .before .if1 .left)))
-    (head-is (λ x. alnum x || is "-" x) (a .s .now) (a .start) (c .before .before .before .symbol .ensures) one)
-    in
-    record { from = omega arith; within = omega arith; left = sym (e ∙ past-drop (a .s .now) (a .start)) }
+    let w = symbol-within single refl s start (ap single (sym read) ∙ one) in
+    let e = exponent-one (drop start s) (sign-not (at-start .pre) read (c .before .before .if1 .left)) (head-is single s start read one) in
+    record { from = omega arith; within = omega arith; left = sym (e ∙ past-drop s start) }
 
 returns-3 : tie.Need-returns-3
 returns-3 c =
-    let a = c .before .before .before .before .before .args in
-    stays (c .before .before .before .before .before .pre)
-    (exponent-none (drop (a .start) (a .s .now)) (head-is (is "{") (a .s .now) (a .start) (c .before .before .before .symbol .ensures) (ne-eqb _ _ (c .before .before .if1 .left)))
-    (head-is (λ x. alnum x || is "-" x) (a .s .now) (a .start) (c .before .before .before .symbol .ensures) (sym (c .before .is-exponent-symbol .ensures) ∙ c .if2 .left)))
+    let at-start : tie.Start = search in
+    let s = at-start .args .s .now in let start = at-start .args .start in
+    let read = c .before .before .before .symbol .ensures in
+    let none = sym (c .before .is-exponent-symbol .ensures) ∙ c .if2 .left in
+    stays (at-start .pre) (exponent-none (drop start s) (sign-not (at-start .pre) read (c .before .before .if1 .left)) (head-is single s start read none))
 
 pub past-exponent-spec : {M : Type 1} → statement M
 past-exponent-spec =
     tie.close
     (tie.spec
-    symbol-requires
-    add-past-group
+    (λ c κs. search needs)
+    (λ c. search needs)
     past-group-requires
     returns
-    is-exponent-symbol-requires
-    add-result
+    (λ c κs. search needs)
+    (λ c. search needs)
     returns-2
     returns-3)

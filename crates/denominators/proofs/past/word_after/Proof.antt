@@ -1,6 +1,6 @@
 -- `denominators::past::word_after` meets its contract. The loop's invariant: the search from here is the search from the start. Assumes nothing.
 use Rattle.denominators.specs.Past.{word-after-more, word-after-stop}
-use Rattle.operands.specs.Places.{drop-none}
+use Rattle.symbols.specs.Places.{drop-none}
 use Rattle.spec.specs.Fractions.{inOperand, wordAfter}
 use Rattle.spec.specs.Laws.Symbols.{drop-step, head-drop}
 use Prim.Native.Nat.{_+_, _-_, _≤_}
@@ -22,41 +22,25 @@ abbrev μ-loop : tie.MeasureT-loop
 loop-holds : tie.Need-loop-holds Inv-loop μ-loop
 loop-holds c = (omega arith, omega arith, refl)
 
-shared-slice-read-b : tie.Need-shared-slice-read-b Inv-loop μ-loop
-shared-slice-read-b c = omega arith
-
-add-symbol : tie.Need-add-symbol Inv-loop μ-loop
-add-symbol c = omega arith
-
-symbol-requires : tie.Need-symbol-requires Inv-loop μ-loop
-symbol-requires c κs = search needs
-
-is-in-operand-requires : tie.Need-is-in-operand-requires Inv-loop μ-loop
-is-in-operand-requires c κs = search needs
-
 returns : tie.Need-returns Inv-loop μ-loop
 returns c =
-    let l = c .before .before .before .before .before in
-    let s = c .before .before .before .before .before .before .before .args .s .now in
-    let i = l .loop .i in
+    let at-loop : tie.At-loop Inv-loop μ-loop = search in
+    let at-start : tie.Start Inv-loop μ-loop = search in
+    let s = at-start .args .s .now in
+    let i = at-loop .loop .i in
     let z = head-drop s (i + 1) ∙ sym (c .before .before .symbol .ensures) in
-    let t = ap (inOperand (l .loop .previous) (getD s i 0)) z ∙ sym (c .before .is-in-operand .ensures) ∙ not-true _ (c .if1 .taken) in
-    record { from = omega arith; within = omega arith; left = sym (l .loop .inv .2 ∙ word-after-stop (drop-step s i (omega arith)) (l .loop .previous) t) }
-
-add-i : tie.Need-add-i Inv-loop μ-loop
-add-i c = omega arith
-
-loop-less : tie.Need-loop-less Inv-loop μ-loop
-loop-less c = omega arith
+    let t = ap (inOperand (at-loop .loop .previous) (getD s i 0)) z ∙ sym (c .before .is-in-operand .ensures) ∙ not-true _ (c .if1 .taken) in
+    record { from = omega arith; within = omega arith; left = sym (at-loop .loop .inv .2 ∙ word-after-stop (drop-step s i (omega arith)) (at-loop .loop .previous) t) }
 
 loop-again : tie.Need-loop-again Inv-loop μ-loop
 loop-again c =
-    let l = c .before .before .before .before .before in
-    let s = c .before .before .before .before .before .before .before .args .s .now in
-    let i = l .loop .i in
+    let at-loop : tie.At-loop Inv-loop μ-loop = search in
+    let at-start : tie.Start Inv-loop μ-loop = search in
+    let s = at-start .args .s .now in
+    let i = at-loop .loop .i in
     let z = head-drop s (i + 1) ∙ sym (c .before .before .symbol .ensures) in
-    let t = ap (inOperand (l .loop .previous) (getD s i 0)) z ∙ sym (c .before .is-in-operand .ensures) ∙ not-false _ (c .if1 .left) in
-    (omega arith, omega arith, l .loop .inv .2 ∙ word-after-more (drop-step s i (omega arith)) (l .loop .previous) t)
+    let t = ap (inOperand (at-loop .loop .previous) (getD s i 0)) z ∙ sym (c .before .is-in-operand .ensures) ∙ not-false _ (c .if1 .left) in
+    (omega arith, omega arith, at-loop .loop .inv .2 ∙ word-after-more (drop-step s i (omega arith)) (at-loop .loop .previous) t)
 
 returns-2 : tie.Need-returns-2 Inv-loop μ-loop
 unfolding wordAfter
@@ -72,12 +56,12 @@ word-after-spec =
     Inv-loop
     μ-loop
     loop-holds
-    shared-slice-read-b
-    add-symbol
-    symbol-requires
-    is-in-operand-requires
+    (λ c. omega arith)
+    (λ c. omega arith)
+    (λ c κs. search needs)
+    (λ c κs. search needs)
     returns
-    add-i
-    loop-less
+    (λ c. omega arith)
+    (λ c. omega arith)
     loop-again
     returns-2)

@@ -11,7 +11,7 @@ returns : tie.Need-returns
 returns c = slash-inside (c .before .before .before .args .s .now) (c .before .before .before .args .i) (sym (c .before .is-inside-subscript-context .ensures) ∙ c .if1 .taken)
 
 find-fraction-part-before-requires : tie.Need-find-fraction-part-before-requires
-find-fraction-part-before-requires c κs = let to = c .skip-blanks-back .ensures .to in record { short = omega arith; within = omega arith }
+find-fraction-part-before-requires c κs = let to = c .run-start .ensures .to in record { short = omega arith; within = omega arith }
 
 returns-2 : tie.Need-returns-2
 returns-2 c =
@@ -21,48 +21,45 @@ returns-2 c =
     let s = at-start .args .s .now in
     let i = at-start .args .i in
     let outside = sym (at-is-inside-subscript-context .is-inside-subscript-context .ensures) ∙ else1 .if1 .left in
-    let over = c .before .before .before .skip-blanks-back .ensures in
+    let over = c .before .before .before .run-start .ensures in
     let num = c .before .before .find-fraction-part-before .ensures in
     slash-bare s i outside over (behind-nothing num (c .enum-told .given .1))
-
-skip-blanks-requires : tie.Need-skip-blanks-requires
-skip-blanks-requires c κs = record { short = omega arith; within = omega arith }
 
 returns-3 : tie.Need-returns-3
 returns-3 c =
     let after-start : tie.After-start = search in
     let at-find-fraction-part-before : tie.After-find-fraction-part-before = search in
-    let at-skip-blanks-back : tie.After-skip-blanks-back = search in
+    let at-run-start : tie.After-run-start = search in
     let else1 : tie.Else1 = search in
     let at-is-inside-subscript-context : tie.After-is-inside-subscript-context = search in
     let at-start : tie.Start = search in
     let s = at-start .args .s .now in
     let i = at-start .args .i in
     let outside = sym (at-is-inside-subscript-context .is-inside-subscript-context .ensures) ∙ else1 .if1 .left in
-    let over = at-skip-blanks-back .skip-blanks-back .ensures in
+    let over = at-run-start .run-start .ensures in
     let num = at-find-fraction-part-before .find-fraction-part-before .ensures in
     let at = after-start .start .given .1 in
-    let under = c .before .before .skip-blanks .ensures in
+    let under = c .before .before .run-end .ensures in
     let barred = sym (c .before .is-barred .ensures) ∙ c .if2 .taken in
     slash-barred s i outside over under (behind-found num at .to) (behind-is num at) barred
 
 returns-4 : tie.Need-returns-4
 returns-4 c =
     let at-is-barred : tie.After-is-barred = search in
-    let at-skip-blanks : tie.After-skip-blanks = search in
+    let at-run-end : tie.After-run-end = search in
     let after-start : tie.After-start = search in
     let at-find-fraction-part-before : tie.After-find-fraction-part-before = search in
-    let at-skip-blanks-back : tie.After-skip-blanks-back = search in
+    let at-run-start : tie.After-run-start = search in
     let else1 : tie.Else1 = search in
     let at-is-inside-subscript-context : tie.After-is-inside-subscript-context = search in
     let at-start : tie.Start = search in
     let s = at-start .args .s .now in
     let i = at-start .args .i in
     let outside = sym (at-is-inside-subscript-context .is-inside-subscript-context .ensures) ∙ else1 .if1 .left in
-    let over = at-skip-blanks-back .skip-blanks-back .ensures in
+    let over = at-run-start .run-start .ensures in
     let num = at-find-fraction-part-before .find-fraction-part-before .ensures in
     let at = after-start .start .given .1 in
-    let under = at-skip-blanks .skip-blanks .ensures in
+    let under = at-run-end .run-end .ensures in
     let free = sym (at-is-barred .is-barred .ensures) ∙ c .before .before .before .if2 .left in
     let none = ahead-nothing (c .before .before .find-fraction-part-after .ensures) (c .enum-told2 .given .1) in
     slash-alone s i outside over under (behind-found num at .to) (behind-is num at) free none
@@ -71,20 +68,20 @@ returns-5 : tie.Need-returns-5
 returns-5 c =
     let else2 : tie.Else2 = search in
     let at-is-barred : tie.After-is-barred = search in
-    let at-skip-blanks : tie.After-skip-blanks = search in
+    let at-run-end : tie.After-run-end = search in
     let after-start : tie.After-start = search in
     let at-find-fraction-part-before : tie.After-find-fraction-part-before = search in
-    let at-skip-blanks-back : tie.After-skip-blanks-back = search in
+    let at-run-start : tie.After-run-start = search in
     let else1 : tie.Else1 = search in
     let at-is-inside-subscript-context : tie.After-is-inside-subscript-context = search in
     let at-start : tie.Start = search in
     let s = at-start .args .s .now in
     let i = at-start .args .i in
     let outside = sym (at-is-inside-subscript-context .is-inside-subscript-context .ensures) ∙ else1 .if1 .left in
-    let over = at-skip-blanks-back .skip-blanks-back .ensures in
+    let over = at-run-start .run-start .ensures in
     let num = at-find-fraction-part-before .find-fraction-part-before .ensures in
     let at = after-start .start .given .1 in
-    let under = at-skip-blanks .skip-blanks .ensures in
+    let under = at-run-end .run-end .ensures in
     let free = sym (at-is-barred .is-barred .ensures) ∙ else2 .if2 .left in
     let den = c .before .before .before .find-fraction-part-after .ensures in
     let to = c .before .end .given .1 in
@@ -103,7 +100,7 @@ slash-at-spec =
     (λ c. search needs)
     returns-2
     (λ c. search needs)
-    skip-blanks-requires
+    (λ c κs. search needs)
     (λ c κs. search needs)
     returns-3
     (λ c κs. search needs)

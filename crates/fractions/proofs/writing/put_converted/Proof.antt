@@ -11,7 +11,7 @@ use Rattle.fractions.proofs.writing.put_converted.Tie as tie
 
 put-fraction-requires : tie.Need-put-fraction-requires
 put-fraction-requires c κs =
-    let at-pop : tie.After-pop = search in
+    let at-saturating-sub : tie.After-saturating-sub = search in
     let at-start : tie.Start = search in
     let p = at-start .pre in
     let ord = p .1 .1 in
@@ -20,7 +20,7 @@ put-fraction-requires c κs =
     let o₃ = ord .behind-slash in
     let o₄ = ord .denominator in
     let o₅ = ord .within in
-    let left = at-pop .pop .ensures in
+    let left = at-saturating-sub .saturating-sub .ensures in
     let region = p .0 .region in
     let small = p .0 .small in
     (record { region = region; small = omega arith }, (num-source (p .0) (p .1 .0) ord, den-source (p .0) (p .1 .0) ord))
@@ -30,14 +30,14 @@ same-length c = appended-long (c .before .before .put-fraction .ensures)
 
 returns : tie.Need-returns
 returns c =
-    let at-pop : tie.After-pop = search in
+    let at-saturating-sub : tie.After-saturating-sub = search in
     let at-start : tie.Start = search in
     let a = at-start .args in
     let p = at-start .pre in
     let w = a .work .now in
     let put = c .before .before .put-fraction in
-    let shifted = subst (Appended w (put .last .0) (a .to) 8192 (at-pop .pop .result) (put .result)) (fraction-shifted (p .0) (p .1 .0) (p .1 .1)) (put .ensures) in
-    subst (λ l. Appended w (put .last .0) (a .to) 8192 l (put .result) (fraction (a .f) (part (a .from) (a .n) w))) (at-pop .pop .ensures) shifted
+    let shifted = subst (Appended w (put .last .0) (a .to) 8192 (at-saturating-sub .saturating-sub .result) (put .result)) (fraction-shifted (p .0) (p .1 .0) (p .1 .1)) (put .ensures) in
+    subst (λ l. Appended w (put .last .0) (a .to) 8192 l (put .result) (fraction (a .f) (part (a .from) (a .n) w))) (at-saturating-sub .saturating-sub .ensures) shifted
 
 pub put-converted-spec : {M : Type 1} → statement M
 put-converted-spec =

@@ -14,12 +14,12 @@ use Rattle.layout.proofs.thin.is_spacing.Tie as tie
 
 returns : tie.Need-returns
 returns c =
-    let at-letters : tie.After-letters = search in
     let at-start : tie.Start = search in
+    let letters : tie.After-run-end = search in
     let s = at-start .args .s .now in
-    let end = at-letters .letters .result in
+    let end = letters .run-end .result in
     ap₂ (λ a b. ltb 0 end && (a && not b)) (c .before .before .is-argument .ensures ∙ ap argument (rest-of end s)) (c .is-atom-command .ensures ∙ ap (λ k. oneOf atomCommands (take k s)) (sub-zero end))
-    ∙ spacing-is s (at-letters .letters .ensures)
+    ∙ spacing-is (letters .run-end .ensures)
 
 pub is-spacing-spec : {M : Type 1} → statement M
 is-spacing-spec =

@@ -3,11 +3,8 @@ use borrow.Author.Needs.{needs}
 use Rattle.operands.proofs.classes.is_exponent_symbol.Statement.{statement}
 use Rattle.operands.proofs.classes.is_exponent_symbol.Tie as tie
 
-is-alnum-requires : tie.Need-is-alnum-requires
-is-alnum-requires c κs = search needs
-
 returns : tie.Need-returns
 returns c = rw (← c .is-alnum .ensures)
 
 pub is-exponent-symbol-spec : {M : Type 1} → statement M
-is-exponent-symbol-spec = tie.close (tie.spec is-alnum-requires returns)
+is-exponent-symbol-spec = tie.close (tie.spec (λ c κs. search needs) returns)

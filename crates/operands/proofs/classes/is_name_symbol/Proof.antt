@@ -3,11 +3,8 @@ use borrow.Author.Needs.{needs}
 use Rattle.operands.proofs.classes.is_name_symbol.Statement.{statement}
 use Rattle.operands.proofs.classes.is_name_symbol.Tie as tie
 
-is-operand-symbol-requires : tie.Need-is-operand-symbol-requires
-is-operand-symbol-requires c κs = search needs
-
 returns : tie.Need-returns
 returns c = rw (← c .is-operand-symbol .ensures)
 
 pub is-name-symbol-spec : {M : Type 1} → statement M
-is-name-symbol-spec = tie.close (tie.spec is-operand-symbol-requires returns)
+is-name-symbol-spec = tie.close (tie.spec (λ c κs. search needs) returns)

@@ -3,11 +3,8 @@ use borrow.Author.Needs.{needs}
 use Rattle.operands.proofs.classes.is_operand_symbol.Statement.{statement}
 use Rattle.operands.proofs.classes.is_operand_symbol.Tie as tie
 
-is-alnum-requires : tie.Need-is-alnum-requires
-is-alnum-requires c κs = search needs
-
 returns : tie.Need-returns
 returns c = rw (← c .is-alnum .ensures)
 
 pub is-operand-symbol-spec : {M : Type 1} → statement M
-is-operand-symbol-spec = tie.close (tie.spec is-alnum-requires returns)
+is-operand-symbol-spec = tie.close (tie.spec (λ c κs. search needs) returns)

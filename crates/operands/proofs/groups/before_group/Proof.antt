@@ -7,15 +7,6 @@ use native.Mathlib.Omega.{arith}
 use Rattle.operands.proofs.groups.before_group.Statement.{statement}
 use Rattle.operands.proofs.groups.before_group.Tie as tie
 
-closed-before-requires : tie.Need-closed-before-requires
-closed-before-requires c κs = search needs
-
-enum-known-i : tie.Need-enum-known-i
-enum-known-i c = search needs
-
-enum-told : tie.Need-enum-told
-enum-told c = search needs
-
 returns : tie.Need-returns
 returns c = record { to = omega arith; left = sym (ap orEnd (behind-nothing (c .before .before .closed-before .ensures) (c .enum-told .given .1))) }
 
@@ -24,4 +15,4 @@ returns-2 c = behind-found (c .before .before .before .closed-before .ensures) (
 
 pub before-group-spec : {M : Type 1} → statement M
 before-group-spec =
-    tie.close (tie.spec closed-before-requires enum-known-i enum-told returns returns-2)
+    tie.close (tie.spec (λ c κs. search needs) (λ c. search needs) (λ c. search needs) returns returns-2)

@@ -8,33 +8,20 @@ use native.Mathlib.Omega.{arith}
 use Rattle.operands.proofs.groups.closed_after.Statement.{statement}
 use Rattle.operands.proofs.groups.closed_after.Tie as tie
 
-sub-find-closer : tie.Need-sub-find-closer
-sub-find-closer c = search needs
-
-part-find-closer-start : tie.Need-part-find-closer-start
-part-find-closer-start c = search needs
-
-part-find-closer-end : tie.Need-part-find-closer-end
-part-find-closer-end c = search needs
-
 find-closer-requires : tie.Need-find-closer-requires
 find-closer-requires c κs = simp (length-take, length-drop) (omega arith)
 
-enum-known-k : tie.Need-enum-known-k
-enum-known-k c = search needs
-
-enum-told : tie.Need-enum-told
-enum-told c = search needs
-
 returns : tie.Need-returns
 returns c =
-    let a = c .before .before .before .before .before .args in
-    nothing-ahead (c .before .before .before .before .before .pre) (closes-nothing (closes-rest (a .s .now) (a .start) (close (a .opener) (a .closer) 0) (c .before .before .find-closer .ensures)) (c .enum-told .given .1))
+    let at-start : tie.Start = search in
+    let a = at-start .args in
+    nothing-ahead (at-start .pre) (closes-nothing (closes-rest (a .s .now) (a .start) (close (a .opener) (a .closer) 0) (c .before .before .find-closer .ensures)) (c .enum-told .given .1))
 
 returns-2 : tie.Need-returns-2
 returns-2 c =
-    let a = c .before .before .before .before .before .before .args in
-    closed-ahead (c .before .before .before .before .before .before .pre .within) (closes-rest (a .s .now) (a .start) (close (a .opener) (a .closer) 0) (c .before .before .before .find-closer .ensures)) (c .before .k .given .1)
+    let at-start : tie.Start = search in
+    let a = at-start .args in
+    closed-ahead (at-start .pre .within) (closes-rest (a .s .now) (a .start) (close (a .opener) (a .closer) 0) (c .before .before .before .find-closer .ensures)) (c .before .k .given .1)
 
 add-t8 : tie.Need-add-t8
 add-t8 c = let w = returns-2 c .within in omega arith
@@ -46,12 +33,12 @@ pub closed-after-spec : {M : Type 1} → statement M
 closed-after-spec =
     tie.close
     (tie.spec
-    sub-find-closer
-    part-find-closer-start
-    part-find-closer-end
+    (λ c. search needs)
+    (λ c. search needs)
+    (λ c. search needs)
     find-closer-requires
-    enum-known-k
-    enum-told
+    (λ c. search needs)
+    (λ c. search needs)
     returns
     add-t8
     add-t11

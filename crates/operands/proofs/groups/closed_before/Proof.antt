@@ -12,15 +12,6 @@ use native.Mathlib.Omega.{arith}
 use Rattle.operands.proofs.groups.closed_before.Statement.{statement}
 use Rattle.operands.proofs.groups.closed_before.Tie as tie
 
-sub-find-closer-back : tie.Need-sub-find-closer-back
-sub-find-closer-back c = search needs
-
-part-find-closer-back-start : tie.Need-part-find-closer-back-start
-part-find-closer-back-start c = search needs
-
-part-find-closer-back-end : tie.Need-part-find-closer-back-end
-part-find-closer-back-end c = search needs
-
 find-closer-back-requires : tie.Need-find-closer-back-requires
 find-closer-back-requires c κs = let n = length-take (c .before .before .args .end - 0) (c .before .before .args .s .now) in omega arith
 
@@ -35,8 +26,8 @@ pub closed-before-spec : {M : Type 1} → statement M
 closed-before-spec =
     tie.close
     (tie.spec
-    sub-find-closer-back
-    part-find-closer-back-start
-    part-find-closer-back-end
+    (λ c. search needs)
+    (λ c. search needs)
+    (λ c. search needs)
     find-closer-back-requires
     returns)

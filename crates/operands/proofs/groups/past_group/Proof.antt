@@ -1,5 +1,6 @@
 -- `operands::groups::past_group` meets its contract. Assumes nothing.
-use Rattle.operands.specs.Places.{ahead-found, ahead-nothing, drop-none}
+use Rattle.symbols.specs.Places.{drop-none}
+use Rattle.operands.specs.Places.{ahead-found, ahead-nothing}
 use Rattle.spec.specs.Closing.{orEnd}
 use borrow.Author.Needs.{needs}
 use lib.ListN.{length}
@@ -8,18 +9,10 @@ use native.Mathlib.Omega.{arith}
 use Rattle.operands.proofs.groups.past_group.Statement.{statement}
 use Rattle.operands.proofs.groups.past_group.Tie as tie
 
-closed-after-requires : tie.Need-closed-after-requires
-closed-after-requires c κs = search needs
-
-enum-known-i : tie.Need-enum-known-i
-enum-known-i c = search needs
-
-enum-told : tie.Need-enum-told
-enum-told c = search needs
-
 returns : tie.Need-returns
 returns c =
-    let s = c .before .before .before .before .args .s .now in
+    let at-start : tie.Start = search in
+    let s = at-start .args .s .now in
     record { from = omega arith; within = omega arith; left = drop-none s (length s) (omega arith) ∙ sym (ap orEnd (ahead-nothing (c .before .before .closed-after .ensures) (c .enum-told .given .1))) }
 
 returns-2 : tie.Need-returns-2
@@ -27,4 +20,4 @@ returns-2 c = ahead-found (c .before .before .before .closed-after .ensures) (c 
 
 pub past-group-spec : {M : Type 1} → statement M
 past-group-spec =
-    tie.close (tie.spec closed-after-requires enum-known-i enum-told returns returns-2)
+    tie.close (tie.spec (λ c κs. search needs) (λ c. search needs) (λ c. search needs) returns returns-2)

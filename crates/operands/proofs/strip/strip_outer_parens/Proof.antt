@@ -10,27 +10,19 @@ use native.Mathlib.Omega.{arith}
 use Rattle.operands.proofs.strip.strip_outer_parens.Statement.{statement}
 use Rattle.operands.proofs.strip.strip_outer_parens.Tie as tie
 
-all-requires : tie.Need-all-requires
-all-requires c κs = search needs
-
 trim-requires : tie.Need-trim-requires
 trim-requires c κs = rw (c .all .ensures) (record { order = omega arith; inside = omega arith })
-
-sub-strip-trimmed : tie.Need-sub-strip-trimmed
-sub-strip-trimmed c = search needs
-
-part-strip-trimmed-start : tie.Need-part-strip-trimmed-start
-part-strip-trimmed-start c = search needs
 
 part-strip-trimmed-end : tie.Need-part-strip-trimmed-end
 part-strip-trimmed-end c = let trimmed = rw (c .before .all .ensures) at (c .trim .ensures) in let to = trimmed .to in omega arith
 
 strip-trimmed-requires : tie.Need-strip-trimmed-requires
 strip-trimmed-requires c κs =
+    let at-start : tie.Start = search in
     let trimmed = rw (c .before .before .all .ensures) at (c .before .trim .ensures) in
     let to = trimmed .to in
     let span = c .before .trim .result in
-    let n = length-take (span .end - span .start) (drop (span .start) (c .before .before .before .before .args .s .now)) in
+    let n = length-take (span .end - span .start) (drop (span .start) (at-start .args .s .now)) in
     omega arith
 
 returns : tie.Need-returns
@@ -41,10 +33,10 @@ pub strip-outer-parens-spec : {M : Type 1} → statement M
 strip-outer-parens-spec =
     tie.close
     (tie.spec
-    all-requires
+    (λ c κs. search needs)
     trim-requires
-    sub-strip-trimmed
-    part-strip-trimmed-start
+    (λ c. search needs)
+    (λ c. search needs)
     part-strip-trimmed-end
     strip-trimmed-requires
     returns)

@@ -3,12 +3,6 @@ use borrow.Author.Needs.{needs}
 use Rattle.plain.proofs.joins.behind.Statement.{statement}
 use Rattle.plain.proofs.joins.behind.Tie as tie
 
-enum-known-front : tie.Need-enum-known-front
-enum-known-front c = search needs
-
-enum-told : tie.Need-enum-told
-enum-told c = search needs
-
 returns : tie.Need-returns
 returns c = rw (c .enum-told .given .1)
 
@@ -21,4 +15,4 @@ returns-2 : tie.Need-returns-2
 returns-2 c = rw (c .before .before .front .given .1) (c .joined .ensures)
 
 pub behind-spec : {M : Type 1} → statement M
-behind-spec = tie.close (tie.spec enum-known-front enum-told returns joined-requires returns-2)
+behind-spec = tie.close (tie.spec (λ c. search needs) (λ c. search needs) returns joined-requires returns-2)

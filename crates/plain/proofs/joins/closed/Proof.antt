@@ -7,27 +7,19 @@ use Rattle.plain.specs.Parts.{bytesOf}
 use Rattle.plain.proofs.joins.closed.Tie as tie
 use Rattle.plain.proofs.joins.closed.Statement.{statement}
 
-enum-known-r : tie.Need-enum-known-r
-enum-known-r c = search needs
-
-enum-told : tie.Need-enum-told
-enum-told c = search needs
-
-returns : tie.Need-returns
-returns c = search needs
-
-symbol-requires : tie.Need-symbol-requires
-symbol-requires c κs = search needs
-
 returns-2 : tie.Need-returns-2
 returns-2 c = rw (c .before .before .before .r .given .1, ← c .before .symbol .ensures, ne-eqb _ _ (c .if1 .taken))
 
 add-t7 : tie.Need-add-t7
-add-t7 c = omega (arith, ap bytesOf (c .before .before .before .before .r .given .1))
+add-t7 c =
+    let at-r : tie.After-r = search in
+    omega (arith, ap bytesOf (at-r .r .given .1))
 
 returns-3 : tie.Need-returns-3
-returns-3 c = rw (c .before .before .before .before .r .given .1, ← c .before .before .symbol .ensures, eq-eqb _ _ (c .before .if1 .left))
+returns-3 c =
+    let at-r : tie.After-r = search in
+    rw (at-r .r .given .1, ← c .before .before .symbol .ensures, eq-eqb _ _ (c .before .if1 .left))
 
 pub closed-spec : {M : Type 1} → statement M
 closed-spec =
-    tie.close (tie.spec enum-known-r enum-told returns symbol-requires returns-2 add-t7 returns-3)
+    tie.close (tie.spec (λ c. search needs) (λ c. search needs) (λ c. search needs) (λ c κs. search needs) returns-2 add-t7 returns-3)

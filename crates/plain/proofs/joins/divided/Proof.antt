@@ -6,29 +6,26 @@ use Rattle.plain.specs.Parts.{bytesOf, atomsOf}
 use Rattle.plain.proofs.joins.divided.Tie as tie
 use Rattle.plain.proofs.joins.divided.Statement.{statement}
 
-enum-known-r : tie.Need-enum-known-r
-enum-known-r c = search needs
-
-enum-told : tie.Need-enum-told
-enum-told c = search needs
-
-returns : tie.Need-returns
-returns c = search needs
-
 returns-2 : tie.Need-returns-2
-returns-2 c = rw (c .before .before .before .before .before .r .given .1, c .if1 .taken)
-
-add-t7 : tie.Need-add-t7
-add-t7 c = search needs
+returns-2 c =
+    let at-r : tie.After-r = search in
+    rw (at-r .r .given .1, c .if1 .taken)
 
 add-t8 : tie.Need-add-t8
-add-t8 c = omega (arith, ap bytesOf (c .before .before .before .before .before .before .before .r .given .1))
+add-t8 c =
+    let at-r : tie.After-r = search in
+    omega (arith, ap bytesOf (at-r .r .given .1))
 
 add-t9 : tie.Need-add-t9
-add-t9 c = omega (arith, ap atomsOf (c .before .before .before .before .before .before .before .before .before .r .given .1))
+add-t9 c =
+    let at-r : tie.After-r = search in
+    omega (arith, ap atomsOf (at-r .r .given .1))
 
 returns-3 : tie.Need-returns-3
-returns-3 c = rw (c .before .before .before .before .before .before .before .before .before .before .before .r .given .1, c .before .before .before .before .before .before .if1 .left)
+returns-3 c =
+    let else1 : tie.Else1 = search in
+    let at-r : tie.After-r = search in
+    rw (at-r .r .given .1, else1 .if1 .left)
 
 pub divided-spec : {M : Type 1} → statement M
-divided-spec = tie.close (tie.spec enum-known-r enum-told returns returns-2 add-t7 add-t8 add-t9 returns-3)
+divided-spec = tie.close (tie.spec (λ c. search needs) (λ c. search needs) (λ c. search needs) returns-2 (λ c. search needs) add-t8 add-t9 returns-3)

@@ -7,23 +7,18 @@ use Rattle.plain.specs.Parts.{bytesOf}
 use Rattle.plain.proofs.joins.grouped.Tie as tie
 use Rattle.plain.proofs.joins.grouped.Statement.{statement}
 
-enum-known-r : tie.Need-enum-known-r
-enum-known-r c = search needs
-
-enum-told : tie.Need-enum-told
-enum-told c = search needs
-
-returns : tie.Need-returns
-returns c = search needs
-
 returns-2 : tie.Need-returns-2
 returns-2 c = let r = c .before .before .before .r .given in rw (r .1, not-true (r .0 .0 .scriptless) (c .if1 .taken))
 
 add-t4 : tie.Need-add-t4
-add-t4 c = omega (arith, ap bytesOf (c .before .before .before .before .r .given .1))
+add-t4 c =
+    let at-r : tie.After-r = search in
+    omega (arith, ap bytesOf (at-r .r .given .1))
 
 returns-3 : tie.Need-returns-3
-returns-3 c = let r = c .before .before .before .before .r .given in rw (r .1, not-false (r .0 .0 .scriptless) (c .before .if1 .left))
+returns-3 c =
+    let at-r : tie.After-r = search in
+    let r = at-r .r .given in rw (r .1, not-false (r .0 .0 .scriptless) (c .before .if1 .left))
 
 pub grouped-spec : {M : Type 1} → statement M
-grouped-spec = tie.close (tie.spec enum-known-r enum-told returns returns-2 add-t4 returns-3)
+grouped-spec = tie.close (tie.spec (λ c. search needs) (λ c. search needs) (λ c. search needs) returns-2 add-t4 returns-3)

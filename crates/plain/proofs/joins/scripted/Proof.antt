@@ -6,15 +6,6 @@ use Rattle.plain.specs.Parts.{bytesOf, atomsOf}
 use Rattle.plain.proofs.joins.scripted.Tie as tie
 use Rattle.plain.proofs.joins.scripted.Statement.{statement}
 
-enum-known-r : tie.Need-enum-known-r
-enum-known-r c = search needs
-
-enum-told : tie.Need-enum-told
-enum-told c = search needs
-
-returns : tie.Need-returns
-returns c = search needs
-
 add-t4 : tie.Need-add-t4
 add-t4 c = omega (arith, ap bytesOf (c .before .before .r .given .1))
 
@@ -25,4 +16,4 @@ returns-2 : tie.Need-returns-2
 returns-2 c = rw (c .before .before .before .r .given .1)
 
 pub scripted-spec : {M : Type 1} → statement M
-scripted-spec = tie.close (tie.spec enum-known-r enum-told returns add-t4 add-t5 returns-2)
+scripted-spec = tie.close (tie.spec (λ c. search needs) (λ c. search needs) (λ c. search needs) add-t4 add-t5 returns-2)

@@ -33,8 +33,8 @@ use Rattle.plain.proofs.readers.+factor+operand+product+script+scripts+
 use Rattle.plain.proofs.readers.+factor+operand+product+script+scripts+sum.{statement}
 use Rattle.plain.proofs.readers.+factor+operand+product+script+scripts+sum.Tie.{close}
 use Rattle.plain.proofs.readers.+factor+operand+product+script+scripts+sum.Proof.Cycle.{μ-factor, μ-operand, μ-product, μ-script, μ-scripts, μ-sum, factor-at, operand-at, product-at, script-at, scripts-at, sum-at, factor-calls, operand-calls, product-calls, script-calls, scripts-calls, sum-calls}
-use Rattle.plain.proofs.readers.+factor+operand+product+script+scripts+sum.Proof.Scripts.{script-symbol-requires, script-leaf-requires, script-returns, script-rest-requires, script-symbol-requires-2, script-is-alnum-requires, script-leaf-requires-2, script-returns-2, script-operand-requires, script-grouped-requires, script-returns-3, scripts-script-requires, scripts-enum-known-p, scripts-enum-told, scripts-returns, scripts-rest-requires, scripts-script-requires-2, scripts-joined-requires, scripts-returns-2}
-use Rattle.plain.proofs.readers.+factor+operand+product+script+scripts+sum.Proof.Series.{product-Inv-loop, product-μ-loop, product-loop-holds, product-factor-requires, product-behind-requires, product-enum-known-r, product-enum-told, product-returns, product-rest-requires, product-factor-next-requires, product-returns-2, product-rest-requires-2, product-loop-less, product-loop-again, sum-Inv-loop, sum-μ-loop, sum-loop-holds, sum-product-requires, sum-behind-requires, sum-enum-known-r, sum-enum-told, sum-returns, sum-rest-requires, sum-sign-next-requires, sum-returns-2, sum-rest-requires-2, sum-loop-less, sum-loop-again}
+use Rattle.plain.proofs.readers.+factor+operand+product+script+scripts+sum.Proof.Scripts.{script-returns, script-returns-2, script-operand-requires, script-grouped-requires, script-returns-3, scripts-returns, scripts-script-requires-2, scripts-joined-requires, scripts-returns-2}
+use Rattle.plain.proofs.readers.+factor+operand+product+script+scripts+sum.Proof.Series.{product-Inv-loop, product-μ-loop, product-loop-holds, product-factor-requires, product-behind-requires, product-returns, product-returns-2, product-loop-less, product-loop-again, sum-Inv-loop, sum-μ-loop, sum-loop-holds, sum-product-requires, sum-behind-requires, sum-returns, sum-returns-2, sum-loop-less, sum-loop-again}
 
 -- the atom that comes next, with no slash behind it
 factor-atom : (t : ℕ) (c : factor-lts.Then1 (factor-calls t) (factor-at t) factor.Post)
@@ -53,15 +53,6 @@ factor-front t c =
     let found = c .before .before in
     record { answers = rw (found .p .given .1) at (found .before .before .operand .ensures); behind = c .rest2 .ensures }
 
-factor-atom-requires : (t : ℕ) → factor-lts.Need-atom-requires (factor-calls t) (factor-at t) factor.Post
-factor-atom-requires t c κs = search needs
-
-factor-rest-requires : (t : ℕ) → factor-lts.Need-rest-requires (factor-calls t) (factor-at t) factor.Post
-factor-rest-requires t c κs = search needs
-
-factor-symbol-requires : (t : ℕ) → factor-lts.Need-symbol-requires (factor-calls t) (factor-at t) factor.Post
-factor-symbol-requires t c κs = search needs
-
 factor-scripts-requires : (t : ℕ) → factor-lts.Need-scripts-requires (factor-calls t) (factor-at t) factor.Post
 factor-scripts-requires t c κs = omega (arith, scripted-split (factor-atom t c))
 
@@ -79,26 +70,8 @@ factor-returns t c =
     let other = not-true _ (and-right (ltb 0 (atom .atom .result)) _ (taken .if1 .taken)) in
     rw (c .scripted .ensures) (factor-scripted (factor-atom t taken) (λ e. eqb-false _ _ other (tested .symbol .ensures ∙ e)) refl (c .before .scripts .ensures))
 
-factor-operand-requires : (t : ℕ) → factor-lts.Need-operand-requires (factor-calls t) (factor-at t) factor.Post
-factor-operand-requires t c κs = omega arith
-
-factor-enum-known-p : (t : ℕ) → factor-lts.Need-enum-known-p (factor-calls t) (factor-at t) factor.Post
-factor-enum-known-p t c = search needs
-
-factor-enum-told : (t : ℕ) → factor-lts.Need-enum-told (factor-calls t) (factor-at t) factor.Post
-factor-enum-told t c = search needs
-
 factor-returns-2 : (t : ℕ) → factor-lts.Need-returns-2 (factor-calls t) (factor-at t) factor.Post
 factor-returns-2 t c = factor-nothing (rw (c .enum-told .given .1) at (c .before .before .operand .ensures))
-
-factor-rest-requires-2 : (t : ℕ) → factor-lts.Need-rest-requires-2 (factor-calls t) (factor-at t) factor.Post
-factor-rest-requires-2 t c κs = search needs
-
-factor-symbol-requires-2 : (t : ℕ) → factor-lts.Need-symbol-requires-2 (factor-calls t) (factor-at t) factor.Post
-factor-symbol-requires-2 t c κs = search needs
-
-factor-rest-requires-3 : (t : ℕ) → factor-lts.Need-rest-requires-3 (factor-calls t) (factor-at t) factor.Post
-factor-rest-requires-3 t c κs = search needs
 
 factor-operand-requires-2 : (t : ℕ) → factor-lts.Need-operand-requires-2 (factor-calls t) (factor-at t) factor.Post
 factor-operand-requires-2 t c κs =
@@ -135,27 +108,16 @@ factor-returns-4 t c =
     let atom = tested .before .before in
     factor-group (factor-front t rest) (atom .atom .ensures) (tested .before .rest .ensures) (rw (tested .symbol .ensures) at (left .if1 .left)) (λ e. c .if2 .left (c .before .symbol2 .ensures ∙ e))
 
-operand-atom-requires : (t : ℕ) → operand-lts.Need-atom-requires (operand-calls t) (operand-at t) operand.Post
-operand-atom-requires t c κs = search needs
-
-operand-leaf-requires : (t : ℕ) → operand-lts.Need-leaf-requires (operand-calls t) (operand-at t) operand.Post
-operand-leaf-requires t c κs = search needs
-
 operand-returns : (t : ℕ) → operand-lts.Need-returns (operand-calls t) (operand-at t) operand.Post
 operand-returns t c =
-    let start = c .before .before .before .before in
+    let start : operand-lts.Start (operand-calls t) (operand-at t) operand.Post = search in
     rw (c .leaf .ensures) (operand-atom (start .args .s .now) (c .before .before .atom .ensures) (c .before .if1 .taken))
-
-operand-symbol-requires : (t : ℕ) → operand-lts.Need-symbol-requires (operand-calls t) (operand-at t) operand.Post
-operand-symbol-requires t c κs = search needs
-
-operand-rest-requires : (t : ℕ) → operand-lts.Need-rest-requires (operand-calls t) (operand-at t) operand.Post
-operand-rest-requires t c κs = search needs
 
 operand-sum-requires : (t : ℕ) → operand-lts.Need-sum-requires (operand-calls t) (operand-at t) operand.Post
 operand-sum-requires t c κs =
     let paren = c .before in
-    let s = paren .before .before .before .before .before .args .s .now in
+    let start : operand-lts.Start (operand-calls t) (operand-at t) operand.Post = search in
+    let s = start .args .s .now in
     omega (arith, tail-size s (c .rest .ensures), byte-room s (code "(") (omega arith) (sym (paren .before .symbol .ensures) ∙ paren .if2 .taken))
 
 operand-closed-requires : (t : ℕ) → operand-lts.Need-closed-requires (operand-calls t) (operand-at t) operand.Post
@@ -180,23 +142,23 @@ operand-returns-3 t c =
 pub +factor+operand+product+script+scripts+sum-spec : {M : Type 1} → statement M
 +factor+operand+product+script+scripts+sum-spec =
     close μ-factor μ-operand μ-product μ-script μ-scripts μ-sum (λ t. factor-lts.spec (factor-calls t) (factor-at t) factor.Post
-    (factor-atom-requires t) (factor-rest-requires t) (factor-symbol-requires t) (factor-scripts-requires t) (factor-scripted-requires t)
-    (factor-returns t) (factor-operand-requires t) (factor-enum-known-p t) (factor-enum-told t) (factor-returns-2 t)
-    (factor-rest-requires-2 t) (factor-symbol-requires-2 t) (factor-rest-requires-3 t) (factor-operand-requires-2 t)
+    (λ c κs. search needs) (λ c κs. search needs) (λ c κs. search needs) (factor-scripts-requires t) (factor-scripted-requires t)
+    (factor-returns t) (λ c κs. omega arith) (λ c. search needs) (λ c. search needs) (factor-returns-2 t)
+    (λ c κs. search needs) (λ c κs. search needs) (λ c κs. search needs) (factor-operand-requires-2 t)
     (factor-divided-requires t) (factor-returns-3 t) (factor-returns-4 t))
-    (λ t. operand-lts.spec (operand-calls t) (operand-at t) operand.Post (operand-atom-requires t) (operand-leaf-requires t)
-    (operand-returns t) (operand-symbol-requires t) (operand-rest-requires t) (operand-sum-requires t) (operand-closed-requires t)
+    (λ t. operand-lts.spec (operand-calls t) (operand-at t) operand.Post (λ c κs. search needs) (λ c κs. search needs)
+    (operand-returns t) (λ c κs. search needs) (λ c κs. search needs) (operand-sum-requires t) (operand-closed-requires t)
     (operand-returns-2 t) (operand-returns-3 t))
     (λ t. product-lts.spec (product-calls t) (product-at t) product.Post product-Inv-loop product-μ-loop (product-loop-holds t)
-    (product-factor-requires t) (product-behind-requires t) (product-enum-known-r t) (product-enum-told t) (product-returns t)
-    (product-rest-requires t) (product-factor-next-requires t) (product-returns-2 t) (product-rest-requires-2 t) (product-loop-less t)
+    (product-factor-requires t) (product-behind-requires t) (λ c. search needs) (λ c. search needs) (product-returns t)
+    (λ c κs. search needs) (λ c κs. search needs) (product-returns-2 t) (λ c κs. search needs) (product-loop-less t)
     (product-loop-again t))
-    (λ t. script-lts.spec (script-calls t) (script-at t) script.Post (script-symbol-requires t) (script-leaf-requires t) (script-returns t)
-    (script-rest-requires t) (script-symbol-requires-2 t) (script-is-alnum-requires t) (script-leaf-requires-2 t) (script-returns-2 t)
+    (λ t. script-lts.spec (script-calls t) (script-at t) script.Post (λ c κs. search needs) (λ c κs. search needs) (script-returns t)
+    (λ c κs. search needs) (λ c κs. search needs) (λ c κs. search needs) (λ c κs. search needs) (script-returns-2 t)
     (script-operand-requires t) (script-grouped-requires t) (script-returns-3 t))
-    (λ t. scripts-lts.spec (scripts-calls t) (scripts-at t) scripts.Post (scripts-script-requires t) (scripts-enum-known-p t)
-    (scripts-enum-told t) (scripts-returns t) (scripts-rest-requires t) (scripts-script-requires-2 t) (scripts-joined-requires t)
+    (λ t. scripts-lts.spec (scripts-calls t) (scripts-at t) scripts.Post (λ c κs. omega arith) (λ c. search needs)
+    (λ c. search needs) (scripts-returns t) (λ c κs. search needs) (scripts-script-requires-2 t) (scripts-joined-requires t)
     (scripts-returns-2 t))
     λ t. sum-lts.spec (sum-calls t) (sum-at t) sum.Post sum-Inv-loop sum-μ-loop (sum-loop-holds t) (sum-product-requires t)
-    (sum-behind-requires t) (sum-enum-known-r t) (sum-enum-told t) (sum-returns t) (sum-rest-requires t) (sum-sign-next-requires t)
-    (sum-returns-2 t) (sum-rest-requires-2 t) (sum-loop-less t) (sum-loop-again t)
+    (sum-behind-requires t) (λ c. search needs) (λ c. search needs) (sum-returns t) (λ c κs. search needs) (λ c κs. search needs)
+    (sum-returns-2 t) (λ c κs. search needs) (sum-loop-less t) (sum-loop-again t)

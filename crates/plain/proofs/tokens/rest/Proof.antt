@@ -8,18 +8,6 @@ use borrow.Author.Needs.{needs}
 use Rattle.plain.proofs.tokens.rest.Tie as tie
 use Rattle.plain.proofs.tokens.rest.Statement.{statement}
 
-sub-result : tie.Need-sub-result
-sub-result c = search needs
-
-part-result-start : tie.Need-part-result-start
-part-result-start c = search needs
-
-part-result-end : tie.Need-part-result-end
-part-result-end c = search needs
-
-slice-aggregate-result : tie.Need-slice-aggregate-result
-slice-aggregate-result c = search needs
-
 returns : tie.Need-returns
 returns c =
     let a = c .before .before .args in
@@ -34,9 +22,9 @@ pub rest-spec : {M : Type 1} → statement M
 rest-spec =
     tie.close
     (tie.spec
-    sub-result
-    part-result-start
-    part-result-end
-    slice-aggregate-result
+    (λ c. search needs)
+    (λ c. search needs)
+    (λ c. search needs)
+    (λ c. search needs)
     returns
     returns-2)

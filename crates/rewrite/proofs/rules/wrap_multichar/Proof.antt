@@ -5,25 +5,16 @@ use native.Mathlib.Omega.{arith}
 use Rattle.rewrite.proofs.rules.wrap_multichar.Statement.{statement}
 use Rattle.rewrite.proofs.rules.wrap_multichar.Tie as tie
 
-ident-end-requires : tie.Need-ident-end-requires
-ident-end-requires c κs =
+run-end-requires : tie.Need-run-end-requires
+run-end-requires c κs =
     let s = c .before .before in
     let l = starts-long (s .args .pattern .now) (s .args .s .now) (s .pre .starts-with) in omega arith
 
 returns : tie.Need-returns
-returns c =
-    let at-start : tie.Start = search in
-    λ left. ident-wrapped (at-start .pre) left (c .before .ident-end .ensures) (omega arith)
+returns c = λ left. let at-start : tie.Start = search in ident-wrapped (at-start .pre) left (c .before .run-end .ensures) (omega arith)
 
 returns-2 : tie.Need-returns-2
-returns-2 c =
-    let at-start : tie.Start = search in
-    λ left. ident-short (at-start .pre) left (c .before .ident-end .ensures) (omega arith)
+returns-2 c = λ left. let at-start : tie.Start = search in ident-short (at-start .pre) left (c .before .run-end .ensures) (omega arith)
 
 pub wrap-multichar-spec : {M : Type 1} → statement M
-wrap-multichar-spec =
-    tie.close
-    (tie.spec
-    ident-end-requires
-    returns
-    returns-2)
+wrap-multichar-spec = tie.close (tie.spec run-end-requires returns returns-2)

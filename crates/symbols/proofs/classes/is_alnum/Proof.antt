@@ -3,14 +3,8 @@ use borrow.Author.Needs.{needs}
 use Rattle.symbols.proofs.classes.is_alnum.Statement.{statement}
 use Rattle.symbols.proofs.classes.is_alnum.Tie as tie
 
-is-letter-requires : tie.Need-is-letter-requires
-is-letter-requires c κs = search needs
-
-is-digit-requires : tie.Need-is-digit-requires
-is-digit-requires c κs = search needs
-
 returns : tie.Need-returns
 returns c = rw (c .is-digit .ensures, c .before .is-letter .ensures)
 
 pub is-alnum-spec : {M : Type 1} → statement M
-is-alnum-spec = tie.close (tie.spec is-letter-requires is-digit-requires returns)
+is-alnum-spec = tie.close (tie.spec (λ c κs. search needs) (λ c κs. search needs) returns)

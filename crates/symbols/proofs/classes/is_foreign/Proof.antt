@@ -3,11 +3,8 @@ use borrow.Author.Needs.{needs}
 use Rattle.symbols.proofs.classes.is_foreign.Statement.{statement}
 use Rattle.symbols.proofs.classes.is_foreign.Tie as tie
 
-is-between-requires : tie.Need-is-between-requires
-is-between-requires c κs = search needs
-
 returns : tie.Need-returns
 returns c = rw (c .is-between .ensures)
 
 pub is-foreign-spec : {M : Type 1} → statement M
-is-foreign-spec = tie.close (tie.spec is-between-requires returns)
+is-foreign-spec = tie.close (tie.spec (λ c κs. search needs) returns)

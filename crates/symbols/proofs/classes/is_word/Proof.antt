@@ -3,11 +3,8 @@ use borrow.Author.Needs.{needs}
 use Rattle.symbols.proofs.classes.is_word.Statement.{statement}
 use Rattle.symbols.proofs.classes.is_word.Tie as tie
 
-is-alnum-requires : tie.Need-is-alnum-requires
-is-alnum-requires c κs = search needs
-
 returns : tie.Need-returns
 returns c = rw (c .is-alnum .ensures)
 
 pub is-word-spec : {M : Type 1} → statement M
-is-word-spec = tie.close (tie.spec is-alnum-requires returns)
+is-word-spec = tie.close (tie.spec (λ c κs. search needs) returns)

@@ -1,17 +1,11 @@
 -- `symbols::spans::trim` meets its contract, by what its two callees ensure. Assumes nothing.
-use Rattle.symbols.specs.Trim.{member}
+use Rattle.symbols.specs.Runs.{member}
 use Rattle.spec.specs.Symbols.{dropWhileEnd}
 use native.Mathlib.Omega.{arith}
 use mathlib.Core.Path.{ap, _∙_}
 use borrow.Author.Needs.{needs}
 use Rattle.symbols.proofs.spans.trim.Statement.{statement}
 use Rattle.symbols.proofs.spans.trim.Tie as tie
-
-skip-requires : tie.Need-skip-requires
-skip-requires c κs = search needs
-
-skip-end-requires : tie.Need-skip-end-requires
-skip-end-requires c κs = search needs
 
 returns : tie.Need-returns
 returns c =
@@ -20,4 +14,4 @@ returns c =
     record { from = omega arith; order = b .order; to = omega arith; text = b .text ∙ ap (dropWhileEnd (member (c .before .before .before .args .class))) (a .text) }
 
 pub trim-spec : {M : Type 1} → statement M
-trim-spec = tie.close (tie.spec skip-requires skip-end-requires returns)
+trim-spec = tie.close (tie.spec (λ c κs. search needs) (λ c κs. search needs) returns)

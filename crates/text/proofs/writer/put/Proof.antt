@@ -7,15 +7,6 @@ use Rattle.text.specs.Writer.{put-below, put-past, length-puts}
 use Rattle.text.proofs.writer.put.Statement.{statement}
 use Rattle.text.proofs.writer.put.Tie as tie
 
-add-work : tie.Need-add-work
-add-work c = search needs
-
-slice-write-work : tie.Need-slice-write-work
-slice-write-work c = search needs
-
-add-result : tie.Need-add-result
-add-result c = search needs
-
 returns : tie.Need-returns
 returns c =
     record {
@@ -30,4 +21,4 @@ same-length : tie.Need-same-length
 same-length c = ap length (returns c .work) ∙ length-puts _ _ _ _ _
 
 pub put-spec : {M : Type 1} → statement M
-put-spec = tie.close (tie.spec add-work slice-write-work add-result same-length returns)
+put-spec = tie.close (tie.spec (λ c. search needs) (λ c. search needs) (λ c. search needs) same-length returns)

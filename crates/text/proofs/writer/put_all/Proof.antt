@@ -18,33 +18,26 @@ abbrev μ-loop : tie.MeasureT-loop
 loop-holds : tie.Need-loop-holds Inv-loop μ-loop
 loop-holds c = (omega arith, refl, appended-none _ _ _ _)
 
-shared-slice-read-put : tie.Need-shared-slice-read-put Inv-loop μ-loop
-shared-slice-read-put c = omega arith
-
 put-requires : tie.Need-put-requires Inv-loop μ-loop
 put-requires c κs =
+    let at-start : tie.Start Inv-loop μ-loop = search in
     let l = c .before .before .before in
-    next-room _ (l .loop .i) (l .loop .inv .2) (omega arith) (l .before .before .before .pre)
-
-add-i : tie.Need-add-i Inv-loop μ-loop
-add-i c = omega arith
-
-loop-less : tie.Need-loop-less Inv-loop μ-loop
-loop-less c = omega arith
+    next-room _ (l .loop .i) (l .loop .inv .2) (omega arith) (at-start .pre)
 
 loop-again : tie.Need-loop-again Inv-loop μ-loop
 loop-again c =
-    let l = c .before .before .before .before .before .before in
-    (omega arith, refl, next-appended _ (l .loop .i) (l .loop .inv .2) (omega arith) (c .before .before .put .ensures))
+    let at-loop : tie.At-loop Inv-loop μ-loop = search in
+    (omega arith, refl, next-appended _ (at-loop .loop .i) (at-loop .loop .inv .2) (omega arith) (c .before .before .put .ensures))
 
 same-length : tie.Need-same-length Inv-loop μ-loop
 same-length c = ap length (c .before .loop .inv .2 .work) ∙ length-puts _ _ _ _ _
 
 returns : tie.Need-returns Inv-loop μ-loop
 returns c =
-    let bytes = c .before .before .before .before .args .bytes .now in
+    let at-start : tie.Start Inv-loop μ-loop = search in
+    let bytes = at-start .args .bytes .now in
     let all : length bytes ≤ c .before .loop .i = omega arith in
     rw (← take-all (c .before .loop .i) bytes all) (c .before .loop .inv .2)
 
 pub put-all-spec : {M : Type 1} → statement M
-put-all-spec = tie.close (tie.spec Inv-loop μ-loop loop-holds shared-slice-read-put put-requires add-i loop-less loop-again same-length returns)
+put-all-spec = tie.close (tie.spec Inv-loop μ-loop loop-holds (λ c. omega arith) put-requires (λ c. omega arith) (λ c. omega arith) loop-again same-length returns)

@@ -3,7 +3,6 @@ use Prim.Native.Nat.{ℕ}
 use Prim.Native.Char.{code}
 use native.Mathlib.Omega.{arith}
 use mathlib.Core.Path.{sym, ap, _∙_}
-use borrow.Author.Needs.{needs}
 use Rattle.spec.specs.Symbols.{alnum}
 use Rattle.plain.specs.Readers.{readScript}
 use Rattle.plain.specs.Steps.{Front, fit, scripts-nothing, scripts-split, scripts-more, script-absent, script-short, script-group, tail-size}
@@ -14,28 +13,10 @@ use Rattle.plain.proofs.readers.scripts.Reads as scripts
 use Rattle.plain.proofs.readers.+factor+operand+product+script+scripts+sum.Lts-scripts as scripts-lts
 use Rattle.plain.proofs.readers.+factor+operand+product+script+scripts+sum.Proof.Cycle.{script-at, scripts-at, script-calls, scripts-calls}
 
-pub script-symbol-requires : (t : ℕ) → script-lts.Need-symbol-requires (script-calls t) (script-at t) script.Post
-script-symbol-requires t c κs = search needs
-
-pub script-leaf-requires : (t : ℕ) → script-lts.Need-leaf-requires (script-calls t) (script-at t) script.Post
-script-leaf-requires t c κs = search needs
-
 pub script-returns : (t : ℕ) → script-lts.Need-returns (script-calls t) (script-at t) script.Post
 script-returns t c =
-    let start = c .before .before .before .before in
+    let start : script-lts.Start (script-calls t) (script-at t) script.Post = search in
     rw (c .leaf .ensures) (script-absent (start .args .sign) (start .args .s .now) (λ e. c .before .if1 .taken (c .before .before .symbol .ensures ∙ e)))
-
-pub script-rest-requires : (t : ℕ) → script-lts.Need-rest-requires (script-calls t) (script-at t) script.Post
-script-rest-requires t c κs = search needs
-
-pub script-symbol-requires-2 : (t : ℕ) → script-lts.Need-symbol-requires-2 (script-calls t) (script-at t) script.Post
-script-symbol-requires-2 t c κs = search needs
-
-pub script-is-alnum-requires : (t : ℕ) → script-lts.Need-is-alnum-requires (script-calls t) (script-at t) script.Post
-script-is-alnum-requires t c κs = search needs
-
-pub script-leaf-requires-2 : (t : ℕ) → script-lts.Need-leaf-requires-2 (script-calls t) (script-at t) script.Post
-script-leaf-requires-2 t c κs = search needs
 
 pub script-returns-2 : (t : ℕ) → script-lts.Need-returns-2 (script-calls t) (script-at t) script.Post
 script-returns-2 t c =
@@ -57,8 +38,8 @@ script-operand-requires t c κs =
 
 pub script-grouped-requires : (t : ℕ) → script-lts.Need-grouped-requires (script-calls t) (script-at t) script.Post
 script-grouped-requires t c κs =
-    let rest = c .before .before .before .before in
-    let start = rest .before .before .before .before in
+    let rest : script-lts.After-rest (script-calls t) (script-at t) script.Post = search in
+    let start : script-lts.Start (script-calls t) (script-at t) script.Post = search in
     omega (arith, tail-size (start .args .s .now) (rest .rest .ensures))
 
 pub script-returns-3 : (t : ℕ) → script-lts.Need-returns-3 (script-calls t) (script-at t) script.Post
@@ -71,32 +52,21 @@ script-returns-3 t c =
     (script-group (start .args .sign) (start .args .s .now) (start .pre .1) (sym (stands .before .symbol .ensures) ∙ stands .if1 .left) (rest .rest .ensures)
     (ap alnum (sym (tested .before .symbol2 .ensures)) ∙ sym (tested .is-alnum .ensures) ∙ c .before .before .if2 .left) (c .before .operand .ensures))
 
-scripts-front : (t : ℕ) (c : scripts-lts.After-rest (scripts-calls t) (scripts-at t) scripts.Post) → Front (readScript (code "_")) 0 (c .before .before .before .before .before .before .args .s .now) (c .before .before .p .given .0 .0) (c .rest .result .now)
+scripts-front : (t : ℕ) (c : scripts-lts.After-rest (scripts-calls t) (scripts-at t) scripts.Post)
+    → (let found = c .before .before in let read = found .before .before in let start = read .before .before in Front (readScript (code "_")) 0 (start .args .s .now) (found .p .given .0 .0) (c .rest .result .now))
 scripts-front t c =
     let found = c .before .before in
     record { answers = rw (found .p .given .1) at (found .before .before .script .ensures); behind = c .rest .ensures }
 
-pub scripts-script-requires : (t : ℕ) → scripts-lts.Need-script-requires (scripts-calls t) (scripts-at t) scripts.Post
-scripts-script-requires t c κs = omega arith
-
-pub scripts-enum-known-p : (t : ℕ) → scripts-lts.Need-enum-known-p (scripts-calls t) (scripts-at t) scripts.Post
-scripts-enum-known-p t c = search needs
-
-pub scripts-enum-told : (t : ℕ) → scripts-lts.Need-enum-told (scripts-calls t) (scripts-at t) scripts.Post
-scripts-enum-told t c = search needs
-
 pub scripts-returns : (t : ℕ) → scripts-lts.Need-returns (scripts-calls t) (scripts-at t) scripts.Post
 scripts-returns t c = scripts-nothing (rw (c .enum-told .given .1) at (c .before .before .script .ensures))
-
-pub scripts-rest-requires : (t : ℕ) → scripts-lts.Need-rest-requires (scripts-calls t) (scripts-at t) scripts.Post
-scripts-rest-requires t c κs = search needs
 
 pub scripts-script-requires-2 : (t : ℕ) → scripts-lts.Need-script-requires-2 (scripts-calls t) (scripts-at t) scripts.Post
 scripts-script-requires-2 t c κs = omega (arith, scripts-split (scripts-front t c))
 
 pub scripts-joined-requires : (t : ℕ) → scripts-lts.Need-joined-requires (scripts-calls t) (scripts-at t) scripts.Post
 scripts-joined-requires t c κs =
-    let start = c .before .before .before .before .before .before .before in
+    let start : scripts-lts.Start (scripts-calls t) (scripts-at t) scripts.Post = search in
     fit (start .good .0 .0) (scripts-split (scripts-front t (c .before))) (c .script2 .ensures .within)
 
 pub scripts-returns-2 : (t : ℕ) → scripts-lts.Need-returns-2 (scripts-calls t) (scripts-at t) scripts.Post

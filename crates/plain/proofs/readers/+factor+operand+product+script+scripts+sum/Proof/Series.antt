@@ -3,7 +3,6 @@ use Prim.Native.Nat.{ℕ}
 use native.Mathlib.Omega.{arith}
 use mathlib.Core.Path.{sym, _∙_}
 use lib.ListN.{length}
-use borrow.Author.Needs.{needs}
 use borrow.Author.Tests.{not-true, not-false}
 use Rattle.plain.specs.Series.{sums, products, Begun, SoFar, Turn, Ahead, first, later, begun-sum, begun-product, ahead-short, ahead-fit, ahead-more, ahead-less}
 use Rattle.plain.proofs.readers.product.Reads as product
@@ -57,28 +56,13 @@ product-behind-requires t c κs =
     let start = head .before .before in
     ahead-fit (start .good .0 .0) (head .loop .inv) (c .factor .ensures .within)
 
-pub product-enum-known-r : (t : ℕ) → product-lts.Need-enum-known-r (product-calls t) (product-at t) product.Post product-Inv-loop product-μ-loop
-product-enum-known-r t c = search needs
-
-pub product-enum-told : (t : ℕ) → product-lts.Need-enum-told (product-calls t) (product-at t) product.Post product-Inv-loop product-μ-loop
-product-enum-told t c = search needs
-
 pub product-returns : (t : ℕ) → product-lts.Need-returns (product-calls t) (product-at t) product.Post product-Inv-loop product-μ-loop
 product-returns t c = rw (c .enum-told .given .1) at (product-so-far t (c .before .before))
-
-pub product-rest-requires : (t : ℕ) → product-lts.Need-rest-requires (product-calls t) (product-at t) product.Post product-Inv-loop product-μ-loop
-product-rest-requires t c κs = search needs
-
-pub product-factor-next-requires : (t : ℕ) → product-lts.Need-factor-next-requires (product-calls t) (product-at t) product.Post product-Inv-loop product-μ-loop
-product-factor-next-requires t c κs = search needs
 
 pub product-returns-2 : (t : ℕ) → product-lts.Need-returns-2 (product-calls t) (product-at t) product.Post product-Inv-loop product-μ-loop
 product-returns-2 t c =
     let rest = c .before .before in
     product-begun t (rest .before .before) .done (rest .rest .ensures) (sym (c .before .factor-next .ensures) ∙ not-true _ (c .if1 .taken))
-
-pub product-rest-requires-2 : (t : ℕ) → product-lts.Need-rest-requires-2 (product-calls t) (product-at t) product.Post product-Inv-loop product-μ-loop
-product-rest-requires-2 t c κs = search needs
 
 pub product-loop-less : (t : ℕ) → product-lts.Need-loop-less (product-calls t) (product-at t) product.Post product-Inv-loop product-μ-loop
 product-loop-less t c =
@@ -136,28 +120,13 @@ sum-behind-requires t c κs =
     let start = head .before .before in
     ahead-fit (start .good .0 .0) (head .loop .inv) (c .product .ensures .within)
 
-pub sum-enum-known-r : (t : ℕ) → sum-lts.Need-enum-known-r (sum-calls t) (sum-at t) sum.Post sum-Inv-loop sum-μ-loop
-sum-enum-known-r t c = search needs
-
-pub sum-enum-told : (t : ℕ) → sum-lts.Need-enum-told (sum-calls t) (sum-at t) sum.Post sum-Inv-loop sum-μ-loop
-sum-enum-told t c = search needs
-
 pub sum-returns : (t : ℕ) → sum-lts.Need-returns (sum-calls t) (sum-at t) sum.Post sum-Inv-loop sum-μ-loop
 sum-returns t c = rw (c .enum-told .given .1) at (sum-so-far t (c .before .before))
-
-pub sum-rest-requires : (t : ℕ) → sum-lts.Need-rest-requires (sum-calls t) (sum-at t) sum.Post sum-Inv-loop sum-μ-loop
-sum-rest-requires t c κs = search needs
-
-pub sum-sign-next-requires : (t : ℕ) → sum-lts.Need-sign-next-requires (sum-calls t) (sum-at t) sum.Post sum-Inv-loop sum-μ-loop
-sum-sign-next-requires t c κs = search needs
 
 pub sum-returns-2 : (t : ℕ) → sum-lts.Need-returns-2 (sum-calls t) (sum-at t) sum.Post sum-Inv-loop sum-μ-loop
 sum-returns-2 t c =
     let rest = c .before .before in
     sum-begun t (rest .before .before) .done (rest .rest .ensures) (sym (c .before .sign-next .ensures) ∙ not-true _ (c .if1 .taken))
-
-pub sum-rest-requires-2 : (t : ℕ) → sum-lts.Need-rest-requires-2 (sum-calls t) (sum-at t) sum.Post sum-Inv-loop sum-μ-loop
-sum-rest-requires-2 t c κs = search needs
 
 pub sum-loop-less : (t : ℕ) → sum-lts.Need-loop-less (sum-calls t) (sum-at t) sum.Post sum-Inv-loop sum-μ-loop
 sum-loop-less t c =
