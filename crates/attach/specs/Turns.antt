@@ -9,7 +9,7 @@ use mathlib.Core.Bool.{cond}
 use mathlib.Core.List.{List, _++_}
 use mathlib.Core.Logic.{_⊎_, inl, inr, ⊎-elim}
 use mathlib.Core.Option.{Option, none, some}
-use Prim.Native.Nat.{ℕ, zero, suc, _+_, _-_, _≤_, _<_}
+use Prim.Native.Nat.{ℕ, suc, _+_, _-_, _≤_, _<_}
 use native.Mathlib.Decide.{decLt}
 use native.Mathlib.Omega.{arith}
 use lib.Dec.{ltb}
@@ -21,6 +21,7 @@ use Rattle.spec.specs.Calls.{spliced, latexUnderset, attachOnce, attachTimes, c
 use Rattle.spec.specs.Symbols.{bytes, _andThen_, find}
 use Rattle.spec.specs.Laws.Symbols.{find-starts}
 use Rattle.search.specs.Search.{Finds, finds-at, finds-within, finds-nothing, until-drop}
+use Rattle.spec.specs.Laws.Absent.{times-none}
 use Rattle.search.specs.declared.Found.{Found}
 use Rattle.search.specs.declared.Found.the-variants as Found
 use Rattle.delimiters.specs.Delimiters.{Called}
@@ -218,11 +219,6 @@ turning-none {w} {from} {n} half = let z : n - 0 ≡ n = omega arith in record {
 times-some : (j : ℕ) (s : List ℕ) {t : List ℕ} → attachOnce s ≡ some t → attachTimes (suc j) s ≡ attachTimes j t
 unfolding attachTimes
 times-some j s e = let f : Option (List ℕ) → List ℕ = λ o. elim o [ none ↦ s | some t ↦ attachTimes j t ] in ap f e
-
-times-none : (j : ℕ) (s : List ℕ) → attachOnce s ≡ none → attachTimes j s ≡ s
-unfolding attachTimes
-times-none zero s e = refl
-times-none (suc j) s e = let f : Option (List ℕ) → List ℕ = λ o. elim o [ none ↦ s | some t ↦ attachTimes j t ] in ap f e
 
 all-times : {w₀ : List ℕ} {from n : ℕ} → Halved w₀ from n → attachTimes n (part from n w₀) ≡ convertAttach (part from n w₀)
 unfolding convertAttach

@@ -11,7 +11,6 @@ use Rattle.spec.specs.Symbols.{bytes, trim, inside}
 use Rattle.spec.specs.Sweep.{taken}
 use Rattle.spec.specs.Closing.{findCommaInArgs}
 use Rattle.spec.specs.Calls.{callAt, callLength, binom}
-use Rattle.spec.specs.Laws.Sweep.{Waits}
 use Rattle.symbols.specs.Parts.{part, whole-part, length-part, rest-of, sub-part}
 use Rattle.symbols.specs.Trim.{Narrowed, spanned}
 use Rattle.symbols.specs.declared.Span.{Span}
@@ -20,7 +19,7 @@ use Rattle.text.specs.Writer.{Appended, Apart}
 use Rattle.text.specs.Sweep.{Sweeping, rest, symbols-read, symbols-apart, sweeping-more, sweeping-kept}
 use Rattle.search.specs.declared.Found.{Found}
 use Rattle.search.specs.declared.Found.the-variants.{At, Nothing}
-use Rattle.delimiters.specs.Delimiters.{Called, innerAt, called-not, call-read, call-fits}
+use Rattle.delimiters.specs.Delimiters.{Called, innerAt, call-read, call-fits}
 
 abbrev pub latexBinom : List ℕ → List ℕ → List ℕ
 latexBinom a b = bytes "\\binom{" ++ a ++ bytes "}{" ++ b ++ bytes "}"
@@ -56,9 +55,6 @@ module _
         let ao = first .order in let at = first .to in let bf = second .from in let bo = second .order in let bt = second .to in
         let la = length-take (a .end - a .start) (drop (inside + a .start) w) in let lb = length-take (b .end - b .start) (drop (inside + b .start) w) in
         simp length-append (omega arith)
-
-pub binom-waits : Waits (bytes "binom(") binom
-binom-waits = record { copies = λ before s e. rw (sym (called-not (bytes "binom(") s e .inner)) }
 
 -- ---- a turn of the loop: `call_at` has looked at the rest of the text
 module _

@@ -14,6 +14,7 @@ use lib.ListN.{length, length-append}
 use Rattle.spec.specs.Symbols.{textMark, romanMark}
 use Rattle.spec.specs.Held.{Held, withText, inFull, filled, heldStage, putBack}
 use Rattle.spec.specs.Result.{Result, passed, refused, _then_, mostSymbols}
+use Rattle.spec.specs.Laws.Held.{put-back-none}
 use Rattle.symbols.specs.Parts.{part, length-part}
 use Rattle.text.specs.Writer.{Appended, Apart, appended-long}
 use Rattle.text.specs.Written.{appended-text}
@@ -25,9 +26,8 @@ use Rattle.text.specs.declared.Progress.the-variants.{Text, Refused}
 use Rattle.held_laws.specs.Marks.{hasMark, count, order}
 use Rattle.held_laws.specs.Noted.{noted}
 use Rattle.held.specs.Filing.{blocksAt}
-use Rattle.held_laws.specs.WellMade.{WellMade, lost}
+use Rattle.held_laws.specs.WellMade.{WellMade, lost, unheld-unmarked}
 use Rattle.held_laws.specs.PutBack.{put-back-lost}
-use Rattle.held_laws.specs.Blockless.{put-back-none}
 use Rattle.held.specs.Back.{Back, storedFrom}
 use Rattle.held.specs.Holds.{Holds, holds-rewritten, holds-lost, back-romans, romans-back, back-texts, all-back}
 use Rattle.entries.specs.Sized.{Within, StagedWithin, sized}
@@ -91,7 +91,7 @@ module _ {w : List ℕ} {p : Progress} {texts used from n : ℕ} {h : Held} (car
       let none = none-held (marked .made) (omega arith) in
       let same = ap₂ (λ texts romans. heldOf (part from n w) texts romans) (none .0) (none .1) in
       record {
-        answer = sym (ap (λ q. shown q w then (λ t. putBack (withText h t))) e ∙ ap putBack same ∙ put-back-none (part from n w) (subst WellMade same (marked .made)));
+        answer = sym (ap (λ q. shown q w then (λ t. putBack (withText h t))) e ∙ ap putBack same ∙ put-back-none (part from n w) (unheld-unmarked (part from n w) (subst WellMade same (marked .made))));
         long = refl;
         placed = placed-text (carries .ready) e;
       }

@@ -12,6 +12,7 @@ use native.Mathlib.Omega.{arith}
 use lib.ListN.{length, length-append}
 use Rattle.spec.specs.Symbols.{bytes, contains, textMark, romanMark}
 use Rattle.spec.specs.Held.{Held, holdTexts, holdBoth, inFull, filled}
+use Rattle.spec.specs.Laws.Held.{hold-texts-none, hold-both-none}
 use Rattle.symbols.specs.Parts.{part, length-part, whole-part}
 use Rattle.text.specs.Writer.{appended-long}
 use Rattle.text.specs.Stage.{Ready, Placed, placed-text, placed-fits, placed-regions}
@@ -22,7 +23,6 @@ use Rattle.held_laws.specs.Marks.{hasMark, joined}
 use Rattle.held_laws.specs.WellMade.{Every, Plain, Enclosing, WellMade, joined-append}
 use Rattle.held_laws.specs.InFull.{in-full-length, text-marks-left, filled-length}
 use Rattle.held_laws.specs.Holding.{hold-texts-made, hold-both-made}
-use Rattle.held_laws.specs.Blockless.{hold-texts-none, hold-both-none}
 use Rattle.held.specs.Keeping.{keeps-none}
 use Rattle.held_laws.specs.Limits.{hold-texts-full, hold-both-full}
 use Rattle.held.specs.Filing.{HeldOut}

@@ -167,10 +167,6 @@ module _ {w₀ w out : List ℕ} {to cap count₀ count from n : ℕ} (a : Appen
   branch-read i m h = sub-part from n i m w h ∙ ap (λ s. take m (drop i s)) (appended-part a from n (regions .apart))
 
 -- ---- the call in its text
-pub cases-absent : (s : List ℕ) → find (bytes "cases(") s ≡ none → convertCases s ≡ s
-unfolding convertCases casesOnce
-cases-absent s e = rw e
-
 pub cases-unclosed : (s at : List ℕ) → find (bytes "cases(") s ≡ some at → callAt (bytes "cases(") at ≡ none → convertCases s ≡ s
 unfolding convertCases casesOnce
 cases-unclosed s at e f = rw (e, f)

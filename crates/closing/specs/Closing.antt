@@ -4,30 +4,25 @@
 use mathlib.Core.Path.{_≡_, refl, sym, ap, _∙_}
 use mathlib.Core.List.{List, [], _∷_}
 use mathlib.Core.Option.{Option, none, some}
-use Prim.Native.Nat.{ℕ, zero, suc, _+_, _-_, _<_, _≤_}
+use Prim.Native.Nat.{ℕ, zero, suc, pred, _+_, _-_, _<_, _≤_}
 use native.Mathlib.Nat.{not-suc-le-zero}
+use native.Mathlib.Numerals.{sub-one}
 use native.Mathlib.Omega.{arith}
 use lib.Dec.{eqb}
 use lib.ListN.{length, drop, drop-of-length-le}
-use Rattle.spec.specs.Closing.{Side, opens, closes, neither, sideOf, close, matchingDelimiter}
+use Rattle.spec.specs.Closing.{Side, opens, closes, neither, sideOf, depthAfter, close, matchingDelimiter}
 use Rattle.spec.specs.Laws.Symbols.{past-drop}
 use Rattle.closing.specs.declared.Tally.{Tally}
 
 abbrev pub started : ℕ → ℕ → Tally
 started opener closer = record { opener = opener; closer = closer; depth = 1 }
 
--- an opener goes one deeper, a closer comes one back
-abbrev pub depthAfter : ℕ → Side → ℕ
-depthAfter d opens = d + 1
-depthAfter d closes = d - 1
-depthAfter d neither = d
-
 abbrev pub stepped : Tally → ℕ → Tally
 stepped t x =
     record {
       opener = t .opener;
       closer = t .closer;
-      depth = depthAfter (t .depth) (sideOf (eqb x (t .opener)) (eqb x (t .closer)));
+      depth = depthAfter (sideOf (eqb x (t .opener)) (eqb x (t .closer))) (t .depth);
     }
 
 -- what the tally after a symbol says
@@ -38,7 +33,7 @@ module _ (t : Tally) (x : ℕ) {o c : ℕ} {t′ : Tally} (same-opener : t .open
   pub closer-kept : t′ .closer ≡ c
   closer-kept = ap (λ k. k .closer) step ∙ same-closer
 
-  pub depth-stepped : t′ .depth ≡ depthAfter (t .depth) (sideOf (eqb x o) (eqb x c))
+  pub depth-stepped : t′ .depth ≡ depthAfter (sideOf (eqb x o) (eqb x c)) (t .depth)
   depth-stepped = ap (λ k. k .depth) step ∙ rw (same-opener, same-closer)
 
 -- d brackets are open
@@ -48,33 +43,33 @@ closeFrom o c d s = close o c (d - 1) s
 module _ (o c d x : ℕ) (s : List ℕ) (some-open : 0 < d) where
   -- the depth after the symbol
   abbrev next : ℕ
-  next = depthAfter d (sideOf (eqb x o) (eqb x c))
+  next = depthAfter (sideOf (eqb x o) (eqb x c)) d
 
   pub close-here : next ≡ 0 → closeFrom o c d (x ∷ s) ≡ some s
   unfolding close
   close-here e = go (sideOf (eqb x o) (eqb x c)) refl d some-open e
     where
-      go : (side : Side) → sideOf (eqb x o) (eqb x c) ≡ side → (d : ℕ) → 0 < d → depthAfter d side ≡ 0 → close o c (d - 1) (x ∷ s) ≡ some s
+      go : (side : Side) → sideOf (eqb x o) (eqb x c) ≡ side → (d : ℕ) → 0 < d → depthAfter side d ≡ 0 → close o c (d - 1) (x ∷ s) ≡ some s
       go opens f d h e = absurd (omega arith)
-      go closes f d h e = ap (λ k. close o c k (x ∷ s)) e ∙ rw (f, close)
+      go closes f d h e = ap (λ k. close o c k (x ∷ s)) (sub-one d ∙ e) ∙ rw (f, close)
       go neither f d h e = absurd (omega arith)
 
   pub close-past : 0 < next → closeFrom o c d (x ∷ s) ≡ closeFrom o c next s
   unfolding close
   close-past h = go (sideOf (eqb x o) (eqb x c)) refl d some-open h
     where
-      go : (side : Side) → sideOf (eqb x o) (eqb x c) ≡ side → (d : ℕ) → 0 < d → 0 < depthAfter d side → close o c (d - 1) (x ∷ s) ≡ close o c (depthAfter d side - 1) s
-      go opens f d h e = let z : d + 1 - 1 ≡ suc (d - 1) = omega arith in rw (f, z, close)
-      go closes f d h e = let z : d - 1 ≡ suc (d - 1 - 1) = omega arith in ap (λ k. close o c k (x ∷ s)) z ∙ rw (f, close)
+      go : (side : Side) → sideOf (eqb x o) (eqb x c) ≡ side → (d : ℕ) → 0 < d → 0 < depthAfter side d → close o c (d - 1) (x ∷ s) ≡ close o c (depthAfter side d - 1) s
+      go opens f d h e = let z : suc d - 1 ≡ suc (d - 1) = omega arith in rw (f, z, close)
+      go closes f d h e = let z : d - 1 ≡ suc (pred d - 1) = omega arith in ap (λ k. close o c k (x ∷ s)) z ∙ rw (f, close)
       go neither f d h e = rw (f, close)
 
   -- a symbol goes one deeper at the most
   pub depth-more : next ≤ d + 1
   depth-more = go (sideOf (eqb x o) (eqb x c))
     where
-      go : (side : Side) → depthAfter d side ≤ d + 1
+      go : (side : Side) → depthAfter side d ≤ d + 1
       go opens = omega arith
-      go closes = omega arith
+      go closes = let h : pred d ≤ d + 1 = omega arith in h
       go neither = omega arith
 
 -- as many brackets as symbols are left can't all be closed but one

@@ -2,27 +2,27 @@
 use mathlib.Core.Path.{_≡_, refl, sym, ap, _∙_}
 use mathlib.Core.Bool.{false}
 use mathlib.Core.List.{List, _∷_}
-use Prim.Native.Nat.{ℕ, zero, suc, _+_, _-_, _<_, _≤_}
+use Prim.Native.Nat.{ℕ, zero, suc, pred, _-_, _<_, _≤_}
 use native.Mathlib.Nat.{not-suc-le-zero}
+use native.Mathlib.Numerals.{sub-one}
 use native.Mathlib.Omega.{arith}
 use borrow.Author.Tests.{ne-eqb}
 use lib.Dec.{eqb}
 use lib.ListN.{length, drop, drop-of-length-le}
-use Rattle.spec.specs.Closing.{Side, opens, closes, neither, sideOf, level}
-use Rattle.closing.specs.Closing.{depthAfter}
+use Rattle.spec.specs.Closing.{Side, opens, closes, neither, sideOf, depthAfter, level}
 
 module _ (o c d x : ℕ) (s : List ℕ) (some-open : 0 < d) where
   -- the depth after the symbol
   abbrev next : ℕ
-  next = depthAfter d (sideOf (eqb x o) (eqb x c))
+  next = depthAfter (sideOf (eqb x o) (eqb x c)) d
 
   pub level-here : next ≡ 0 → level o c (d - 1) (x ∷ s) ≡ false
   unfolding level
   level-here e = go (sideOf (eqb x o) (eqb x c)) refl d some-open e
     where
-      go : (side : Side) → sideOf (eqb x o) (eqb x c) ≡ side → (d : ℕ) → 0 < d → depthAfter d side ≡ 0 → level o c (d - 1) (x ∷ s) ≡ false
+      go : (side : Side) → sideOf (eqb x o) (eqb x c) ≡ side → (d : ℕ) → 0 < d → depthAfter side d ≡ 0 → level o c (d - 1) (x ∷ s) ≡ false
       go opens f d h e = absurd (omega arith)
-      go closes f d h e = ap (λ k. level o c k (x ∷ s)) e ∙ rw (f, level)
+      go closes f d h e = ap (λ k. level o c k (x ∷ s)) (sub-one d ∙ e) ∙ rw (f, level)
       go neither f d h e = absurd (omega arith)
 
   -- the definition has a case for no bracket and one for some: both step alike
@@ -38,9 +38,9 @@ module _ (o c d x : ℕ) (s : List ℕ) (some-open : 0 < d) where
       same zero f = rw (f, level)
       same (suc k) f = rw (f, level)
 
-      go : (side : Side) → sideOf (eqb x o) (eqb x c) ≡ side → (d : ℕ) → 0 < d → 0 < depthAfter d side → level o c (d - 1) (x ∷ s) ≡ level o c (depthAfter d side - 1) s
-      go opens f d h e = let z : d + 1 - 1 ≡ suc (d - 1) = omega arith in deeper (d - 1) f ∙ ap (λ k. level o c k s) (sym z)
-      go closes f d h e = let z : d - 1 ≡ suc (d - 1 - 1) = omega arith in ap (λ k. level o c k (x ∷ s)) z ∙ rw (f, level)
+      go : (side : Side) → sideOf (eqb x o) (eqb x c) ≡ side → (d : ℕ) → 0 < d → 0 < depthAfter side d → level o c (d - 1) (x ∷ s) ≡ level o c (depthAfter side d - 1) s
+      go opens f d h e = let z : suc d - 1 ≡ suc (d - 1) = omega arith in deeper (d - 1) f ∙ ap (λ k. level o c k s) (sym z)
+      go closes f d h e = let z : d - 1 ≡ suc (pred d - 1) = omega arith in ap (λ k. level o c k (x ∷ s)) z ∙ rw (f, level)
       go neither f d h e = same (d - 1) f
 
 -- at the end the brackets are level where the tally's first one alone is open

@@ -6,10 +6,10 @@ use mathlib.Core.List.{List, [], _∷_}
 use mathlib.Core.Option.{Option, none, some}
 use Prim.Native.Nat.{ℕ, zero, suc, pred, _+_, _-_, _≤_, _<_}
 use native.Mathlib.Omega.{arith}
-use lib.Dec.{eqb, ltb}
+use lib.Dec.{eqb, ltb, eqb·suc-suc}
 use lib.ListN.{length, take, drop, length-drop}
 use lib.Seq.{drop-drop}
-use borrow.Author.Tests.{lt-ltb, le-ltb, eqb-true, eqb-false, eq-eqb, ne-eqb}
+use borrow.Author.Tests.{lt-ltb, le-ltb, eqb-true}
 use Rattle.spec.specs.Symbols.{is, inside}
 use Rattle.spec.specs.Closing.{Side, opens, closes, neither, anySide, commaBehind, findCommaInArgs, pushed, splitFrom, splitTopLevelCommas}
 use Rattle.symbols.specs.Parts.{part, rest-of}
@@ -31,13 +31,6 @@ abbrev partsOf : List ℕ → Option (List ℕ) → List (List ℕ)
 partsOf s none = s ∷ []
 partsOf s (some r) = inside s r ∷ splitTopLevelCommas r
 
-eqb-suc : (o c : ℕ) → eqb (suc o) (suc c) ≡ eqb o c
-eqb-suc o c = go (eqb o c) refl
-  where
-    go : (t : Bool) → eqb o c ≡ t → eqb (suc o) (suc c) ≡ t
-    go true e = eq-eqb (suc o) (suc c) (ap suc (eqb-true o c e))
-    go false e = ne-eqb (suc o) (suc c) (λ f. eqb-false o c e (omega arith))
-
 -- only the difference of brackets opened and closed counts
 split-shift : (o c : ℕ) (s : List ℕ) → splitFrom (suc o) (suc c) s ≡ splitFrom o c s
 unfolding splitFrom
@@ -48,7 +41,7 @@ split-shift o c (x ∷ s) = go (anySide x) refl (split-shift (suc o) c s) (split
         → splitFrom (suc o) (suc c) s ≡ splitFrom o c s → splitFrom (suc o) (suc c) (x ∷ s) ≡ splitFrom o c (x ∷ s)
     go opens f a b e = rw (f, splitFrom) (ap (pushed x) a)
     go closes f a b e = rw (f, splitFrom) (ap (pushed x) b)
-    go neither f a b e = rw (f, splitFrom, eqb-suc o c) (ap₂ (λ p q. elim (is "," x && eqb o c) [ true ↦ [] ∷ p | false ↦ pushed x q ]) e e)
+    go neither f a b e = rw (f, splitFrom, eqb·suc-suc o c) (ap₂ (λ p q. elim (is "," x && eqb o c) [ true ↦ [] ∷ p | false ↦ pushed x q ]) e e)
 
 split-level : (k : ℕ) (s : List ℕ) → splitFrom k k s ≡ splitTopLevelCommas s
 split-level zero s = refl

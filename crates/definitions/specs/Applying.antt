@@ -4,7 +4,7 @@
 --     Left                 the loop: the definitions from a cursor on are left, and all of them may be applied
 -- Assumes nothing.
 use mathlib.Core.Path.{_≡_, refl, sym, ap, _∙_, subst}
-use mathlib.Core.Bool.{Bool, true, false, cond, true≢false}
+use mathlib.Core.Bool.{Bool, true, false, cond}
 use mathlib.Core.List.{List, [], _∷_}
 use mathlib.Core.Option.{some}
 use Prim.Native.Nat.{ℕ, _+_, _-_, _<_}
@@ -15,9 +15,9 @@ use borrow.Author.Tests.{eq-eqb, ne-eqb}
 use Rattle.spec.specs.Sweep.{sweep}
 use Rattle.spec.specs.Result.{Result, passed, refused, _then_, mostSymbols}
 use Rattle.spec.specs.Held.{Held, withText, heldStage, holdTexts, putBack}
-use Rattle.spec.specs.Table.{Definition, faultyName, definitions, byLength}
+use Rattle.spec.specs.Table.{Definition, definitions, byLength}
 use Rattle.spec.specs.Definitions.{defined, applyDefinition, applyDefinitions, applyDefinitionsOutsideText}
-use Rattle.spec.specs.Laws.Table.{rearranged-by-length}
+use Rattle.spec.specs.Laws.Table.{rearranged-by-length, sound-name-some}
 use Rattle.symbols.specs.Parts.{length-part}
 use Rattle.text.specs.Stage.{Ready, shown}
 use Rattle.text.specs.declared.Progress.{Progress}
@@ -108,18 +108,13 @@ pub record Left (table : List ℕ) (c : Cursor) (ds : List Definition) (extra : 
   pub sound : EverySound (remaining table c)
   pub stages : Remaining w₀ w p₀ p extra (sizedDefinitions extra (byLength ds)) (sizedDefinitions extra (remaining table c))
 
--- a sound definition has a name
-sound-name : (name : List ℕ) → faultyName name ≡ false → 0 < length name
-sound-name [] e = absurd (true≢false e)
-sound-name (x ∷ name) e = omega arith
-
 module _ (table : List ℕ) (c c′ : Cursor) (r : Record) (next : remaining table c ≡ definitionAt table r ∷ remaining table c′) where
   sound-both : EverySound (remaining table c) → Sound (definitionAt table r) × EverySound (remaining table c′)
   unfolding EverySound
   sound-both all = subst EverySound next all
 
   pub next-usable : EverySound (remaining table c) → Lies table r → Short r → Usable table r
-  next-usable all l short = let n = length-name l in let m = sound-name (definitionAt table r .name) (sound-both all .0 .name) in record { lies = l; short = short; some-name = omega arith }
+  next-usable all l short = let n = length-name l in let m = sound-name-some (definitionAt table r .name) (sound-both all .0 .name) in record { lies = l; short = short; some-name = omega arith }
 
   pub left-more :
       {ds : List Definition} {extra : ℕ} {w₀ w w′ : List ℕ} {p₀ p p′ : Progress} → Left table c ds extra w₀ w p₀ p

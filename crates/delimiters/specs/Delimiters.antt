@@ -14,7 +14,6 @@ use Rattle.spec.specs.Symbols.{_andThen_, inside, starts, trim, trimQuotes}
 use Rattle.spec.specs.Sweep.{Rule}
 use Rattle.spec.specs.Closing.{findMatchingParen}
 use Rattle.spec.specs.Calls.{callAt, rewritten, calling}
-use Rattle.spec.specs.Laws.Sweep.{Waits}
 use Rattle.symbols.specs.Parts.{part, length-part}
 use Rattle.search.specs.Search.{Closes, inside-drop}
 use Rattle.text.specs.Writer.{Appended}
@@ -64,10 +63,6 @@ called-by name s (At k) e f =
       inner = rw (e, callAt) (ap some (sym (inside-drop d k (omega arith))) ∙ ap (λ o. o andThen λ behind. some (inside d behind)) (f .left));
     }
 called-by name s Nothing e f = record { within = omega arith; inner = rw (e, callAt) (ap (λ o. o andThen λ behind. some (inside (drop (length name) s) behind)) (f .left)) }
-
--- without the name there is no call
-pub calling-waits : (name : List ℕ) (write : List ℕ → List ℕ) → Waits name (calling name write)
-calling-waits name write = record { copies = λ before s e. ap (rewritten name write s) (sym (called-not name s e .inner)) }
 
 -- ---- a turn of a loop: `call_at` has looked at the rest of the text
 module _

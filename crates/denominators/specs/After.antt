@@ -12,7 +12,7 @@ use lib.Seq.{drop-drop}
 use Rattle.spec.specs.Symbols.{bytes, is, solidus, head, past, any, until, starts, ends, find}
 use Rattle.spec.specs.Closing.{findMatchingParen}
 use Rattle.spec.specs.Fractions.{wordAfter, rvertFrom, afterLvert, braces, bracket, power, arguments, grouped, shorterThan, afterBrackets, afterWord, passesSolidus, barred, findFractionPartAfter}
-use Rattle.spec.specs.Laws.Symbols.{starts-long, find-starts}
+use Rattle.spec.specs.Laws.Symbols.{starts-long, find-starts, isSome}
 use Rattle.search.specs.Search.{Finds, finds-at, finds-nothing}
 use Rattle.search.specs.declared.Found.{Found}
 use Rattle.search.specs.declared.Found.the-variants.{At, Nothing}
@@ -20,10 +20,6 @@ use Rattle.symbols.specs.Places.{Ahead}
 use Rattle.operands.specs.Places.{Place}
 
 -- ---- a symbol is looked for as a pattern of one symbol
-abbrev pub isSome : Option (List ℕ) → Bool
-isSome none = false
-isSome (some s) = true
-
 pub any-found : (k : ℕ) (s : List ℕ) → any (λ x. eqb x k) s ≡ isSome (find (k ∷ []) s)
 unfolding find
 any-found k [] = refl

@@ -1,4 +1,3 @@
 -- The laws of the searches after a slash.
 pub mod Past
-pub mod Ends
 pub mod After

@@ -3,18 +3,19 @@ use mathlib.Core.Path.{_≡_, refl, sym, ap, _∙_}
 use mathlib.Core.Bool.{Bool, true, false, _||_, false≢true}
 use mathlib.Core.List.{List, [], _∷_}
 use mathlib.Core.Option.{none, some}
-use Prim.Native.Nat.{ℕ, zero, suc, _+_, _<_}
+use Prim.Native.Nat.{ℕ, suc, _+_, _<_}
 use Prim.Native.Char.{code}
 use native.Mathlib.Omega.{arith}
 use lib.Dec.{eqb}
 use lib.ListN.{getD, drop}
 use borrow.Author.Tests.{eq-eqb, ne-eqb}
 use Rattle.spec.specs.Symbols.{is, alnum, head, past, dropWhile}
-use Rattle.spec.specs.Closing.{Side, opens, closes, neither, side, close, findMatchingParen, findMatchingBrace, orEnd}
-use Rattle.spec.specs.Fractions.{depthAfter, inOperand, factorials, exponent, power, wordAfter, braces, bracket, arguments}
+use Rattle.spec.specs.Closing.{close, findMatchingParen, findMatchingBrace, orEnd}
+use Rattle.spec.specs.Fractions.{inOperand, factorials, exponent, power, wordAfter, braces, bracket, arguments}
 use Rattle.spec.specs.Laws.Symbols.{head-drop, past-drop}
 use Rattle.symbols.specs.Places.{Ahead}
 use Rattle.operands.specs.Places.{Place, stays, ahead-then, symbol-within}
+use Rattle.operands.specs.Groups.{group-closing}
 
 -- ---- searches that go on while a test holds
 pub factorials-run : (s : List ℕ) → factorials s ≡ dropWhile (is "!") s
@@ -106,16 +107,8 @@ arguments-none b (x ∷ s) e = rw (e, arguments)
 
 -- ---- groups in braces, one after the other: a group is a closing search
 group-braces : (d : ℕ) (s : List ℕ) → braces (suc d) s ≡ braces 0 (orEnd (close 123 125 d s))
-unfolding braces close
-group-braces d [] = refl
-group-braces d (x ∷ s) = go d (side 123 125 x) (λ d. group-braces d s)
-  where
-    go : (d : ℕ) (k : Side) → ((d : ℕ) → braces (suc d) s ≡ braces 0 (orEnd (close 123 125 d s)))
-        → braces (depthAfter k (suc d)) s ≡ braces 0 (orEnd (elim k [ opens ↦ close 123 125 (suc d) s | closes ↦ elim d [ zero ↦ some s | suc e ↦ close 123 125 e s ] | neither ↦ close 123 125 d s ]))
-    go d opens h = h (suc d)
-    go zero closes h = refl
-    go (suc d) closes h = h d
-    go d neither h = h d
+unfolding braces
+group-braces = group-closing 123 125 braces (λ d. refl) (λ d x s. refl)
 
 pub braces-group : (l : List ℕ) → is "{" (head l) ≡ true → braces 0 l ≡ braces 0 (orEnd (findMatchingBrace (past l)))
 unfolding braces close

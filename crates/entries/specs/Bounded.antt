@@ -4,14 +4,14 @@
 --     literal-bounded, greek-bounded, ..    the rules of the definitions are such rules
 -- Assumes nothing.
 use mathlib.Core.Path.{_≡_, refl, sym, ap, _∙_}
-use mathlib.Core.Bool.{Bool, true, false, not, cond, _&&_, _||_}
+use mathlib.Core.Bool.{Bool, true, false, not, cond, _&&_, _||_, and-true}
 use mathlib.Core.List.{List}
 use Prim.Native.Nat.{ℕ, _+_, _≤_, _<_}
 use native.Mathlib.Omega.{arith}
 use lib.ListN.{length, getD, drop}
 use lib.Seq.{drop-drop}
 use Rattle.spec.specs.Symbols.{is, letter, alnum, wordly, head, starts}
-use Rattle.spec.specs.Sweep.{Turn, Rule, kept, taken, sweep, replacing}
+use Rattle.spec.specs.Sweep.{Rule, kept, taken, sweep, replacing}
 use Rattle.spec.specs.Rows.{Row}
 use Rattle.spec.specs.Words.{greek, word, capital}
 use Rattle.spec.specs.Table.{Definition}
@@ -65,21 +65,17 @@ pub bounded-waits : (b : Bounds) (pattern fresh : List ℕ) → Waits pattern (b
 bounded-waits b pattern fresh = record { copies = λ before s e. rw e }
 
 -- ---- the definitions' rules
-always : {A : Type 0} (t : Bool) (a b : A) → cond (t && true) a b ≡ cond t a b
-always true a b = refl
-always false a b = refl
-
 -- two rules that are the same at every place sweep alike
 sweep-alike : (r r′ : Rule) → ((before : ℕ) (s : List ℕ) → r before s ≡ r′ before s) → (s : List ℕ) → sweep r 0 0 s ≡ sweep r′ 0 0 s
 sweep-alike r r′ same s = sweep-same r r′ (length s) (λ before t h. same before t) s 0 0 (omega arith)
 
 pub literal-bounded : (pattern fresh s : List ℕ) → sweep (bounded Literal pattern fresh) 0 0 s ≡ sweep (replacing pattern fresh) 0 0 s
-literal-bounded pattern fresh = sweep-alike (bounded Literal pattern fresh) (replacing pattern fresh) (λ before t. always (starts pattern t) (taken (length pattern) fresh) (kept t))
+literal-bounded pattern fresh = sweep-alike (bounded Literal pattern fresh) (replacing pattern fresh) (λ before t. ap (λ b. cond b (taken (length pattern) fresh) (kept t)) (and-true (starts pattern t)))
 
 pub greek-bounded : (r : Row) (s : List ℕ) → sweep (bounded Greek (r .typst) (r .latex)) 0 0 s ≡ sweep (greek r) 0 0 s
 greek-bounded r =
     sweep-alike (bounded Greek (r .typst) (r .latex)) (greek r)
-    (λ before t. always (starts (r .typst) t) (taken (length (r .typst)) (cond (spares Greek (r .typst) before t) (r .typst) (r .latex))) (kept t))
+    (λ before t. ap (λ b. cond b (taken (length (r .typst)) (cond (spares Greek (r .typst) before t) (r .typst) (r .latex))) (kept t)) (and-true (starts (r .typst) t)))
 
 pub word-bounded : (r : Row) (s : List ℕ) → sweep (bounded Word (r .typst) (r .latex)) 0 0 s ≡ sweep (word r) 0 0 s
 word-bounded r s = refl

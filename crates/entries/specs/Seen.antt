@@ -8,19 +8,18 @@
 use mathlib.Core.Path.{_≡_, refl, sym, ap, _∙_, subst}
 use mathlib.Core.Bool.{Bool, true, false, not, cond, _&&_, _||_, and-false, false≢true}
 use mathlib.Core.List.{List, [], _∷_}
-use mathlib.Core.Option.{Option, none, some}
+use mathlib.Core.Option.{none}
 use Prim.Native.Nat.{ℕ, _+_, _-_, _*_, _≤_, _<_}
 use native.Mathlib.Omega.{arith}
 use lib.Dec.{eqb}
 use lib.ListN.{length, getD, set, drop, length-drop}
 use lib.Seq.{getD-set-same, getD-set-other}
-use borrow.Author.Tests.{eqb-true, eqb-false, eq-eqb, ne-eqb}
+use borrow.Author.Tests.{eqb-true, eqb-false, eq-eqb, ne-eqb, not-true}
 use Rattle.spec.specs.Symbols.{any, starts, find, contains}
 use Rattle.spec.specs.Sweep.{Rule, sweep}
-use Rattle.spec.specs.Laws.Symbols.{drop-step, find-past}
+use Rattle.spec.specs.Laws.Symbols.{drop-step, find-past, isSome, contains-find, find-absent}
 use Rattle.spec.specs.Laws.Sweep.{Waits}
 use Rattle.symbols.specs.Parts.{part, whole-part}
-use Rattle.search.specs.Search.{isSome, contains-find}
 use Rattle.text.specs.Stage.{Ready}
 use Rattle.text.specs.declared.Refusal.{Refusal}
 use Rattle.text.specs.declared.Progress.{Progress}
@@ -187,12 +186,8 @@ module _ (w pattern : List ℕ) {p : Progress} {from n : ℕ} (e : p ≡ Text fr
   pub nowhere-searched : {r : Bool} → r ≡ contains pattern (part from (from + n - from) w) → not r ≡ nowhere p w pattern
   nowhere-searched f = ap not (f ∙ ap (contains pattern) (whole-part from n w)) ∙ ap (λ q. nowhere q w pattern) (sym e)
 
-none-found : (o : Option (List ℕ)) → not (isSome o) ≡ true → o ≡ none
-none-found none e = refl
-none-found (some s) e = absurd (false≢true e)
-
 nowhere-absent : (w pattern : List ℕ) (p : Progress) → nowhere p w pattern ≡ true → Absent w pattern p
-nowhere-absent w pattern (Text at n) e = none-found (find pattern (part at n w)) (ap not (contains-find pattern (part at n w)) ∙ e)
+nowhere-absent w pattern (Text at n) e = find-absent pattern (part at n w) (not-true (contains pattern (part at n w)) e)
 nowhere-absent w pattern (Refused k) e = tt
 
 -- the entry's stage leaves every byte as it is

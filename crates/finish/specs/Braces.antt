@@ -11,10 +11,10 @@ use lib.Dec.{eqb}
 use lib.ListN.{length, getD, drop, drop-of-length-le}
 use lib.Seq.{drop-nil}
 use borrow.Author.Tests.{eqb-true, ne-eqb}
-use Rattle.spec.specs.Symbols.{bytes, is, head, find, starts}
+use Rattle.spec.specs.Symbols.{bytes, is, head, find}
 use Rattle.spec.specs.Closing.{close}
 use Rattle.spec.specs.Finish.{groupsBehind, top, popped, brace, escapeBraces, escapeSetBraces}
-use Rattle.spec.specs.Laws.Symbols.{drop-step}
+use Rattle.spec.specs.Laws.Symbols.{drop-step, find-nowhere}
 use Rattle.symbols.specs.Parts.{part, length-part}
 use Rattle.text.specs.Writer.{Regions, Appended}
 use Rattle.text.specs.Filling.{Filling, filling-more, filling-source, filling-symbol}
@@ -109,16 +109,13 @@ module _ (s : List ℕ) (i : ℕ) (within : i ≤ length s) where
 
 -- ---- without an opening brace nothing is escaped
 escape-none : (before : ℕ) (s : List ℕ) → find (bytes "{") s ≡ none → escapeBraces [] before s ≡ s
-unfolding escapeBraces find
+unfolding escapeBraces
 escape-none before [] e = refl
-escape-none before (x ∷ s) e = go (is "{" x) refl (is "}" x) refl (escape-none x s) e
+escape-none before (x ∷ s) e = let here = find-nowhere (bytes "{") x s e in go (is "}" x) refl (here .0) (escape-none x s (here .1))
   where
-    go : (a : Bool) → is "{" x ≡ a → (b : Bool) → is "}" x ≡ b → (find (bytes "{") s ≡ none → escapeBraces [] x s ≡ s)
-        → _≡_ {A = Option (List ℕ)} (elim (starts (bytes "{") (x ∷ s)) [ true ↦ some (x ∷ s) | false ↦ find (bytes "{") s ]) none
-        → escapeBraces [] before (x ∷ s) ≡ x ∷ s
-    go true a b f rest e = let t : starts (bytes "{") (x ∷ s) ≡ true = a in let z : _≡_ {A = ℕ} 0 1 = cc in absurd (omega arith)
-    go false a true f rest e = rw (a, f, escapeBraces) (ap (λ l. x ∷ l) (rest (rw a at e)))
-    go false a false f rest e = rw (a, f, escapeBraces) (ap (λ l. x ∷ l) (rest (rw a at e)))
+    go : (b : Bool) → is "}" x ≡ b → is "{" x ≡ false → escapeBraces [] x s ≡ s → escapeBraces [] before (x ∷ s) ≡ x ∷ s
+    go true f a rest = rw (a, f, escapeBraces) (ap (λ l. x ∷ l) rest)
+    go false f a rest = rw (a, f, escapeBraces) (ap (λ l. x ∷ l) rest)
 
 pub escape-absent : (s : List ℕ) → find (bytes "{") s ≡ none → escapeSetBraces s ≡ s
 unfolding escapeSetBraces

@@ -2,5 +2,4 @@
 pub mod Slash
 pub mod Writing
 pub mod Turn
-pub mod Same
 pub mod Settle

@@ -9,13 +9,15 @@ use mathlib.Core.Option.{Option, none, some}
 use mathlib.Core.Logic.{inl, inr, ⊎-elim}
 use Prim.Native.Nat.{ℕ, suc, _+_, _-_, _≤_, _<_}
 use native.Mathlib.Omega.{arith}
-use lib.Dec.{eqb, ltb}
-use borrow.Author.Tests.{eqb-true, eqb-false, eq-eqb, lt-ltb, le-ltb}
+use lib.Dec.{ltb}
+use borrow.Author.Tests.{lt-ltb, le-ltb}
 use lib.ListN.{length, drop}
 use Rattle.spec.specs.Symbols.{bytes, same, find}
 use Rattle.spec.specs.Result.{Result, passed, refused, mostSymbols}
 use Rattle.spec.specs.Fractions.{fractionsFrom, convertRegularFractions, settle, convertFractions}
-use Rattle.symbols.specs.Parts.{part, length-part}
+use Rattle.spec.specs.Laws.Names.{same-refl, same-other-length}
+use Rattle.spec.specs.Laws.Symbols.{find-nowhere}
+use Rattle.symbols.specs.Parts.{part, length-part, whole-part}
 use Rattle.text.specs.Written.{Wrote, wrote-less, wrote-text, wrote-apart, wrote-beyond}
 use Rattle.text.specs.Stage.{shown, Placed, Ready, Staged, placed-text, placed-regions}
 use Rattle.text.specs.declared.Refusal.the-variants.{Overgrown, Unsettled, BarredSolidus}
@@ -26,7 +28,6 @@ use Rattle.fractions.specs.declared.Outcome.the-variants as Outcome
 use Rattle.fractions.specs.declared.Round.{Round}
 use Rattle.fractions.specs.declared.Round.the-variants as Round
 use Rattle.fractions.specs.Turn.{size, finished, Rounded}
-use Rattle.fractions.specs.Same.{sameAt, same-longer}
 
 -- ---- what a round makes of a text
 pub data Next : Type 0 where
@@ -104,32 +105,39 @@ module _ {w₀ w : List ℕ} {from n : ℕ} {r : Outcome} (ready : Ready w₀ (T
   unfolding next
   step-barred e = record { out = []; decides = ap (nextOf (part from n w₀)) (sym (ap (λ x. finished x (d .out)) e) ∙ d .decides); counted = refl; wrote = wrote-less 0 (d .wrote) }
 
-  module _ {count : ℕ} (done : r ≡ Outcome.Done count) {b : Bool} (compared : b ≡ sameAt w from n (8192 - from) count) where
+  module _ {count : ℕ} (done : r ≡ Outcome.Done count) where
     length-out : count ≡ length (d .out)
     length-out = sym (ap size done) ∙ d .counted
 
-    same-out : same (d .out) (part from n w₀) ≡ b
-    same-out = sym (compared ∙ go (eqb count n) refl)
-      where
-        go : (x : Bool) → eqb count n ≡ x → cond x (same (part (8192 - from) n w) (part from n w)) false ≡ same (d .out) (part from n w₀)
-        go true e =
-            let regions = placed-regions ready refl in
-            let c = length-out in let q = eqb-true count n e in let h = placed-text ready refl .1 in
-            let f : n ≡ length (d .out) = omega arith in
-            ap₂ same (ap (λ j. part (8192 - from) j w) f ∙ wrote-text (d .wrote) (regions .region) (omega arith)) (wrote-apart (d .wrote) from n (regions .apart))
-        go false e =
-            let c = length-out in let q = eqb-false count n e in let l = length-part from n w₀ (placed-regions ready refl .source) in
-            sym (same-longer (d .out) (part from n w₀) (λ h. q (omega arith)))
-
-    step-next : next (part from n w₀) ≡ cond b unchanged (changed (d .out))
+    step-next : {b : Bool} → same (d .out) (part from n w₀) ≡ b → next (part from n w₀) ≡ cond b unchanged (changed (d .out))
     unfolding next
-    step-next = ap (nextOf (part from n w₀)) (sym (d .decides) ∙ ap (λ x. finished x (d .out)) done) ∙ ap (λ x. cond x unchanged (changed (d .out))) same-out
+    step-next e = ap (nextOf (part from n w₀)) (sym (d .decides) ∙ ap (λ x. finished x (d .out)) done) ∙ ap (λ x. cond x unchanged (changed (d .out))) e
 
-    pub step-same : b ≡ true → Stepped w₀ w from n Round.Unchanged
-    step-same e = record { out = []; decides = sym (step-next ∙ ap (λ x. cond x unchanged (changed (d .out))) e); counted = refl; wrote = wrote-less 0 (d .wrote) }
+    differs : same (d .out) (part from n w₀) ≡ false → Stepped w₀ w from n (Round.Changed count)
+    differs e = record { out = d .out; decides = sym (step-next e); counted = length-out; wrote = d .wrote }
 
-    pub step-changed : b ≡ false → Stepped w₀ w from n (Round.Changed count)
-    step-changed e = record { out = d .out; decides = sym (step-next ∙ ap (λ x. cond x unchanged (changed (d .out))) e); counted = length-out; wrote = d .wrote }
+    pub step-longer : (count ≡ n → ⊥) → Stepped w₀ w from n (Round.Changed count)
+    step-longer other =
+        let c = length-out in let l = length-part from n w₀ (placed-regions ready refl .source) in
+        differs (same-other-length (d .out) (part from n w₀) (λ h. other (omega arith)))
+
+    -- the code compares the two regions
+    module _ (even : count ≡ n) {b : Bool} (compared : b ≡ same (part (8192 - from) (8192 - from + n - (8192 - from)) w) (part from (from + n - from) w)) where
+      same-out : same (d .out) (part from n w₀) ≡ b
+      same-out =
+          let regions = placed-regions ready refl in
+          let c = length-out in let h = placed-text ready refl .1 in
+          let f : n ≡ length (d .out) = omega arith in
+          let fresh : part (8192 - from) (8192 - from + n - (8192 - from)) w ≡ d .out =
+          whole-part (8192 - from) n w ∙ ap (λ j. part (8192 - from) j w) f ∙ wrote-text (d .wrote) (regions .region) (omega arith)
+          in
+          sym (compared ∙ ap₂ same fresh (whole-part from n w ∙ wrote-apart (d .wrote) from n (regions .apart)))
+
+      pub step-same : b ≡ true → Stepped w₀ w from n Round.Unchanged
+      step-same e = record { out = []; decides = sym (step-next (same-out ∙ e)); counted = refl; wrote = wrote-less 0 (d .wrote) }
+
+      pub step-changed : b ≡ false → Stepped w₀ w from n (Round.Changed count)
+      step-changed e = differs (same-out ∙ e)
 
 -- ---- what a round leaves as it was
 module _ {w₀ w : List ℕ} {from n : ℕ} {r : Round} (ready : Ready w₀ (Text from n)) (d : Stepped w₀ w from n r) where
@@ -217,25 +225,15 @@ module _ {w₀ w w′ : List ℕ} {from n at len k : ℕ} {r : Round} (g : Going
 
 -- ---- a text with no slash
 reverse-whole : (p o s : List ℕ) → find (bytes "/") s ≡ none → fractionsFrom 0 p o s ≡ some (reverseAux o s)
-unfolding find fractionsFrom
+unfolding fractionsFrom
 reverse-whole p o [] e = refl
-reverse-whole p o (x ∷ s) e = go (eqb x 47) refl e (reverse-whole (x ∷ p) (x ∷ o) s)
-  where
-    go : (b : Bool) → eqb x 47 ≡ b → _≡_ {A = Option (List ℕ)} (elim b [ true ↦ some (x ∷ s) | false ↦ find (bytes "/") s ]) none
-        → (find (bytes "/") s ≡ none → fractionsFrom 0 (x ∷ p) (x ∷ o) s ≡ some (reverseAux o (x ∷ s)))
-        → fractionsFrom 0 p o (x ∷ s) ≡ some (reverseAux o (x ∷ s))
-    go true f e ih = let z : _≡_ {A = ℕ} 0 1 = cc in absurd (omega arith)
-    go false f e ih = rw (f, fractionsFrom) (ih e)
-
-same-self : (s : List ℕ) → same s s ≡ true
-same-self [] = refl
-same-self (x ∷ s) = rw (eq-eqb x x refl) (same-self s)
+reverse-whole p o (x ∷ s) e = let here = find-nowhere (bytes "/") x s e in rw (here .0, fractionsFrom) (reverse-whole (x ∷ p) (x ∷ o) s (here .1))
 
 slashless : (s : List ℕ) → find (bytes "/") s ≡ none → convertFractions s ≡ passed s
 unfolding convertFractions convertRegularFractions next
 slashless s e =
     settle-more 63 s ∙ ap (λ r. moreOf 63 s (nextOf s r)) (reverse-whole [] [] s e)
-    ∙ ap (λ b. moreOf 63 s (cond b unchanged (changed s))) (same-self s)
+    ∙ ap (λ b. moreOf 63 s (cond b unchanged (changed s))) (same-refl s)
 
 pub staged-slashless : {w : List ℕ} {from n : ℕ} → Ready w (Text from n) → find (bytes "/") (part from n w) ≡ none → Staged w w (Text from n) (Text from n) convertFractions
 staged-slashless {w} {from} {n} ready bare =

@@ -4,13 +4,12 @@
 -- Assumes nothing.
 use mathlib.Core.Path.{_≡_, sym, ap, _∙_, subst}
 use mathlib.Core.Bool.{Bool, true, false}
-use mathlib.Core.List.{List, reverse, reverseAux, reverse-append, reverse-reverse}
+use mathlib.Core.List.{List, reverse, reverseAux, reverse-reverse}
 use mathlib.Core.Option.{Option, none, some}
 use Prim.Native.Nat.{ℕ, _+_, _-_, _≤_, _<_}
 use Prim.Native.Char.{code}
 use native.Mathlib.Omega.{arith}
-use lib.ListN.{length, take, drop, length-take, length-drop, length-reverse}
-use lib.Seq.{take-at}
+use lib.ListN.{length, take, drop, length-take, length-drop}
 use Rattle.spec.specs.Symbols.{trimStart, until}
 use Rattle.spec.specs.Fractions.{
   Step,
@@ -25,10 +24,10 @@ use Rattle.spec.specs.Fractions.{
   withNumerator,
   slash,
 }
+use Rattle.spec.specs.Laws.Symbols.{reverse-drop}
 use Rattle.symbols.specs.Parts.{part, drop-take}
 use Rattle.symbols.specs.Trim.{spanned}
 use Rattle.symbols.specs.Places.{before, length-before, Ahead, Behind}
-use Rattle.denominators.specs.Ends.{take-drop}
 use Rattle.operands.specs.Places.{until-ahead}
 use Rattle.fractions.specs.declared.Operands.{Operands}
 use Rattle.fractions.specs.declared.Slash.{Slash}
@@ -64,20 +63,11 @@ pub record Slashed (s : List ℕ) (i : ℕ) (r : Slash) : Type 0 where
   pub fits : Fits (length s) i r
 
 -- ---- the symbols between two places, seen from behind
-reverse-part : (b : ℕ) (l : List ℕ) → b ≤ length l → reverse (take (length l - b) (reverse l)) ≡ drop b l
-reverse-part b l h =
-    let n = length-drop b l in let m = length-reverse (drop b l) in
-    let e : length (reverse (drop b l)) ≡ length l - b = omega arith in
-    ap (λ k. reverse (take (length l - b) (reverse k))) (take-drop b l)
-    ∙ ap (λ k. reverse (take (length l - b) k)) (reverse-append (take b l) (drop b l))
-    ∙ ap reverse (take-at (reverse (drop b l)) (reverse (take b l)) (length l - b) e)
-    ∙ reverse-reverse (drop b l)
-
 until-behind : (s : List ℕ) (b e : ℕ) → b ≤ e → e ≤ length s → reverse (until (before s e) (before s b)) ≡ part b (e - b) s
 until-behind s b e h w =
     let n = length-before s e w in let m = length-before s b (omega arith) in let k = length-take e s in
     let f : length (before s e) - length (before s b) ≡ length (take e s) - b = omega arith in
-    ap (λ j. reverse (take j (before s e))) f ∙ reverse-part b (take e s) (omega arith) ∙ drop-take b e s
+    ap (λ j. reverse (take j (before s e))) f ∙ ap reverse (sym (reverse-drop b (take e s))) ∙ reverse-reverse (drop b (take e s)) ∙ drop-take b e s
 
 abbrev made : List ℕ → ℕ → List ℕ → List ℕ → ℕ → Step
 made o k n d m = record { skip = k; written = reverseAux (frac (stripOuterParens n) (stripOuterParens d)) (drop m o) }

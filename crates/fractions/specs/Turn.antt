@@ -9,17 +9,14 @@ use Prim.Native.Nat.{ℕ, zero, suc, _+_, _-_, _≤_, _<_}
 use Prim.Native.Char.{code}
 use native.Mathlib.Nat.{add-zero}
 use native.Mathlib.Omega.{arith}
-use native.Mathlib.Decide.{decLe}
 use borrow.Author.Tests.{eq-eqb, ne-eqb}
-use lib.ListN.{length, getD, take, drop, length-drop, length-reverse, drop-of-length-le}
-use lib.Seq.{drop-at}
+use lib.ListN.{length, getD, take, drop}
 use Rattle.spec.specs.Fractions.{Step, slash, fractionsFrom, convertRegularFractions}
-use Rattle.spec.specs.Laws.Symbols.{drop-step}
+use Rattle.spec.specs.Laws.Symbols.{drop-step, drop-reverse}
 use Rattle.symbols.specs.Parts.{part, whole-part}
 use Rattle.text.specs.Writer.{Appended, Regions}
 use Rattle.text.specs.Written.{Wrote, Writing, writing-none, writing-more, writing-less, wrote-less, wrote-apart, wrote-read}
 use Rattle.symbols.specs.Places.{before, before-next, drop-none}
-use Rattle.denominators.specs.Ends.{take-drop}
 use Rattle.fractions.specs.declared.Operands.{Operands}
 use Rattle.fractions.specs.declared.Slash.{Slash}
 use Rattle.fractions.specs.declared.Slash.the-variants as Slash
@@ -56,22 +53,6 @@ skipped (suc k) s o i h =
     ∙ ap (λ p. fractionsFrom k p o (drop (i + 1) s)) (sym (before-next s i (omega arith)))
     ∙ skipped k s o (i + 1) (omega arith)
     ∙ ap (λ j. fractionsFrom 0 (before s j) o (drop j s)) e
-
--- what is dropped from the end of what was written
-drop-reverse : (k : ℕ) (l : List ℕ) → drop k (reverse l) ≡ reverse (take (length l - k) l)
-drop-reverse k l = go (decLe k (length l))
-  where
-    go : Dec (k ≤ length l) → drop k (reverse l) ≡ reverse (take (length l - k) l)
-    go (yes h) =
-        let m = length l - k in
-        let a = length-drop m l in let b = length-reverse (drop m l) in
-        let e : length (reverse (drop m l)) ≡ k = omega arith in
-        ap (λ j. drop k (reverse j)) (take-drop m l) ∙ ap (drop k) (reverse-append (take m l) (drop m l)) ∙ drop-at (reverse (drop m l)) (reverse (take m l)) k e
-    go (no h) =
-        let n = length-reverse l in
-        let z : length l - k ≡ 0 = omega arith in
-        let b : length (reverse l) ≤ k = omega arith in
-        drop-of-length-le (reverse l) b ∙ sym (ap (λ j. reverse (take j l)) z)
 
 module _ (s : List ℕ) (i : ℕ) (inside : i < length s) where
   pub round-plain : (getD s i 0 ≡ code "/" → ⊥) → (out : List ℕ) → roundFrom s i out ≡ roundFrom s (i + 1) (out ++ getD s i 0 ∷ [])

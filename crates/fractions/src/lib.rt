@@ -1,6 +1,5 @@
 // Fractions: one round of `convert_regular_fractions` over the lent buffer, and the rounds with numbers 5, 7 and 9.
 mod regular;
-mod same;
 mod settle;
 mod slashes;
 mod writing;

@@ -2,7 +2,6 @@
 use super::Outcome;
 use super::Round;
 use super::regular::convert_regular_fractions;
-use super::same::is_same;
 use search::Found;
 use text::CAP;
 use text::Progress;
@@ -24,8 +23,12 @@ fn next_round(work: &mut [u8], from: usize, n: usize) -> Round
     let Outcome::Done(count) = convert_regular_fractions(work, from, n, to) else {
         return Round::Barred;
     };
-    let all = work.len();
-    if is_same(&work[0..all], from, n, to, count) {
+    if count != n {
+        return Round::Changed(count);
+    }
+    let end = from + n;
+    let to_end = to + n;
+    if search::is_same(&work[to..to_end], &work[from..end]) {
         return Round::Unchanged;
     }
     Round::Changed(count)

@@ -17,8 +17,8 @@ fn put_block(work: &mut [u8], to: usize, len: usize, k: usize) -> usize
     ensures { λ r. ⌜ Appended (now (work .entry)) (now (work .exit)) to 8192 len r (storedAt (now (work .entry)) k) ⌝ }
 {
     let at = super::PLACES_AT + 4 * k;
-    let start = super::wide(work[at]) * 256 + super::wide(work[at + 1]);
-    let long = super::wide(work[at + 2]) * 256 + super::wide(work[at + 2 + 1]);
+    let start = symbols::wide(work[at]) * 256 + symbols::wide(work[at + 1]);
+    let long = symbols::wide(work[at + 2]) * 256 + symbols::wide(work[at + 2 + 1]);
     text::copy(work, super::BLOCKS_AT + start, long, to, text::CAP, len)
 }
 

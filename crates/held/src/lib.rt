@@ -7,8 +7,6 @@ mod hold;
 
 pub use back::put_back;
 pub use hold::hold_out;
-ghost use mathlib.Core.Path.{_≡_};
-ghost use Prim.Native.Nat.{_<_};
 
 // The marks of `\text` and of `\mathrm` blocks.
 pub const TEXT: u8 = 2;
@@ -30,11 +28,4 @@ pub struct Marked {
     pub len: usize,
     pub used: usize,
     pub filed: usize,
-}
-
-// A byte as a number.
-pub fn wide(b: u8) -> usize
-    ensures { λ r. ⌜ (r ≡ b) × (r < 256) ⌝ }
-{
-    b as usize
 }

@@ -12,7 +12,8 @@ use lib.Dec.{ltb, eqb}
 use lib.ListN.{length}
 use borrow.Author.Tests.{eqb-true, ltb-true, lt-ltb, le-ltb}
 use Rattle.spec.specs.Held.{placeholder, restored}
-use Rattle.held_laws.specs.Marks.{isMark, hasMark, first, rest, fill, numbersBelow, occurs, blockAt, or-true, not-text-mark}
+use Rattle.spec.specs.Laws.Booleans.{or-right}
+use Rattle.held_laws.specs.Marks.{isMark, hasMark, first, rest, fill, numbersBelow, occurs, blockAt, not-text-mark}
 use Rattle.held_laws.specs.Replacing.{Unmarked, put}
 use Rattle.held_laws.specs.Broken.{marked, broken, broken-put, broken-marked}
 use Rattle.held_laws.specs.Remains.{Remains, remains-put, remains-marked, remains-behind}
@@ -147,7 +148,7 @@ module _ (block : ℕ → List ℕ) (good : (k : ℕ) → Good (block k)) (ks s 
           let own = h ∙ fill-below (stage block n) block n (λ k less. rw (lt-ltb k n less)) ks s below in
           record { remains = ap marked own ∙ filled-unmarked block n (free-below block n e) ks s below ∙ (rw (e, l)); same = λ _. own }
       go (broken-off e h) =
-          let all = or-true (nestedBelow block n) (lostBelow n ks s) e in
+          let all = or-right (nestedBelow block n) (lostBelow n ks s) e in
           record { remains = broken-marked _ h ∙ sym all; same = λ q. absurd (true≢false (sym all ∙ q)) }
       go (stuck e r) =
           let all : nestedBelow block n || lostBelow n ks s ≡ true = rw e in

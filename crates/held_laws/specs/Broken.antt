@@ -14,8 +14,9 @@ use lib.ListN.{length, drop, length-append}
 use borrow.Author.Tests.{le-leb}
 use Rattle.spec.specs.Symbols.{starts, digit, any, textMark}
 use Rattle.spec.specs.Held.{placeholder}
+use Rattle.spec.specs.Laws.Symbols.{starts-split}
 use Rattle.held_laws.specs.Decimal.{decimal, Digits, decimal-digits}
-use Rattle.held_laws.specs.Replacing.{Unmarked, digit-unmarked, digits-unmarked, starts-split, placeholder-long, put, put-not, put-met}
+use Rattle.held_laws.specs.Replacing.{Unmarked, digit-unmarked, digits-unmarked, placeholder-long, put, put-not, put-met}
 
 -- a mark is left: number 6
 abbrev pub marked : List ℕ → Bool

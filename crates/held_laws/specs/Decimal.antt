@@ -71,7 +71,7 @@ unfolding counted worth
 counted-worth zero = refl
 counted-worth (suc n) = up-worth (counted n) (counted-digits n) ∙ ap suc (counted-worth n)
 
-pub decimal-one : (i j : ℕ) → decimal i ≡ decimal j → i ≡ j
-decimal-one i j e =
+pub decimal-injective : (i j : ℕ) → decimal i ≡ decimal j → i ≡ j
+decimal-injective i j e =
     let same : counted i ≡ counted j = sym (reverse-reverse (counted i)) ∙ ap reverse e ∙ reverse-reverse (counted j) in
     sym (counted-worth i) ∙ ap worth same ∙ counted-worth j

@@ -10,7 +10,8 @@ use lib.ListN.{length, drop}
 use borrow.Author.Tests.{eq-eqb, eqb-true}
 use Rattle.spec.specs.Symbols.{bytes, starts, textMark, romanMark}
 use Rattle.spec.specs.Held.{Taken, takeOut, holdTexts, holdBoth}
-use Rattle.held_laws.specs.Marks.{hasMark, count, joined, or-false, and-true, has-mark-append}
+use Rattle.spec.specs.Laws.Booleans.{or-neither, and-parts}
+use Rattle.held_laws.specs.Marks.{hasMark, count, joined, has-mark-append}
 use Rattle.held_laws.specs.Remains.{backslash}
 use Rattle.held_laws.specs.WellMade.{Every, Plain, Enclosing, WellMade, count-append, unmarked-count, count-unmarked}
 use Rattle.held_laws.specs.TakeOut.{Turns, ended, unclosed, passing, holding, turns}
@@ -77,13 +78,13 @@ taken-begins name mark ended = tt
 taken-begins name mark (unclosed s e f) = tt
 taken-begins name mark (passing x s t e next) = taken-begins name mark next
 taken-begins name mark (holding x block behind t e f next) =
-    (ap (λ y. y ∷ block) (eqb-true x backslash (and-true (starts name (block ++ behind)) (eqb x backslash) e .1)), taken-begins name mark next)
+    (ap (λ y. y ∷ block) (eqb-true x backslash (and-parts (starts name (block ++ behind)) (eqb x backslash) e .1)), taken-begins name mark next)
 
 every-plain : (bs : List (List ℕ)) → Every Begins bs → hasMark (joined bs) ≡ false → Every Plain bs
 unfolding Every joined
 every-plain [] h e = tt
 every-plain (b ∷ bs) h e =
-    let both = or-false (hasMark b) (hasMark (joined bs)) (sym (has-mark-append b (joined bs)) ∙ e) in
+    let both = or-neither (hasMark b) (hasMark (joined bs)) (sym (has-mark-append b (joined bs)) ∙ e) in
     (record { begins = h .0; free = both .0 }, every-plain bs (h .1) (both .1))
 
 every-enclosing : (bs : List (List ℕ)) → Every Begins bs → count romanMark (joined bs) ≡ 0 → Every Enclosing bs
@@ -94,53 +95,53 @@ every-enclosing (b ∷ bs) h e =
     (record { begins = h .0; no-roman = omega arith }, every-enclosing bs (h .1) (omega arith))
 
 -- ---- the two hold-outs
+abbrev pub textsTaken : List ℕ → Taken
+textsTaken s = takeOut (bytes "\\text{") textMark 0 s
+
+abbrev pub textTurns : (s : List ℕ) → Turns (bytes "\\text{") textMark s (textsTaken s)
+textTurns s = turns (bytes "\\text{") textMark s
+
+abbrev pub romansTaken : List ℕ → Taken
+romansTaken s = takeOut (bytes "\\mathrm{") romanMark 0 (textsTaken s .left)
+
+abbrev pub romanTurns : (s : List ℕ) → Turns (bytes "\\mathrm{") romanMark (textsTaken s .left) (romansTaken s)
+romanTurns s = turns (bytes "\\mathrm{") romanMark (textsTaken s .left)
+
 module _ (s : List ℕ) (free : hasMark s ≡ false) where
-  abbrev texts : Taken
-  texts = takeOut (bytes "\\text{") textMark 0 s
-
-  abbrev theTurns : Turns (bytes "\\text{") textMark s texts
-  theTurns = turns (bytes "\\text{") textMark s
-
-  text-left : count textMark (texts .left) ≡ length (texts .blocks)
+  text-left : count textMark (textsTaken s .left) ≡ length (textsTaken s .blocks)
   text-left =
       let none = unmarked-count s free .0 in
-      let own = taken-own (bytes "\\text{") textMark theTurns in
-      let most = taken-within (bytes "\\text{") textMark textMark theTurns in
+      let own = taken-own (bytes "\\text{") textMark (textTurns s) in
+      let most = taken-within (bytes "\\text{") textMark textMark (textTurns s) in
       omega arith
 
-  roman-left : count romanMark (texts .left) ≡ 0
-  roman-left = let none = unmarked-count s free .1 in let other = taken-other (bytes "\\text{") textMark romanMark refl theTurns in omega arith
+  pub roman-left : count romanMark (textsTaken s .left) ≡ 0
+  roman-left = let none = unmarked-count s free .1 in let other = taken-other (bytes "\\text{") textMark romanMark refl (textTurns s) in omega arith
 
-  texts-plain : Every Plain (texts .blocks)
+  texts-plain : Every Plain (textsTaken s .blocks)
   texts-plain =
       let none = unmarked-count s free in
       let no-text = none .0 in
       let no-roman = none .1 in
-      let text = taken-within (bytes "\\text{") textMark textMark theTurns in
-      let roman = taken-within (bytes "\\text{") textMark romanMark theTurns in
-      every-plain (texts .blocks) (taken-begins (bytes "text{") textMark theTurns) (count-unmarked (joined (texts .blocks)) (omega arith) (omega arith))
+      let text = taken-within (bytes "\\text{") textMark textMark (textTurns s) in
+      let roman = taken-within (bytes "\\text{") textMark romanMark (textTurns s) in
+      every-plain (textsTaken s .blocks) (taken-begins (bytes "text{") textMark (textTurns s)) (count-unmarked (joined (textsTaken s .blocks)) (omega arith) (omega arith))
 
   pub hold-texts-made : WellMade (holdTexts s)
   unfolding holdTexts Every joined count
   hold-texts-made = let e = text-left in record { texts = texts-plain; romans = tt; text-marks = omega arith; roman-marks = roman-left }
-
-  abbrev romans : Taken
-  romans = takeOut (bytes "\\mathrm{") romanMark 0 (texts .left)
-
-  abbrev romanTurns : Turns (bytes "\\mathrm{") romanMark (texts .left) romans
-  romanTurns = turns (bytes "\\mathrm{") romanMark (texts .left)
 
   pub hold-both-made : WellMade (holdBoth s)
   unfolding holdBoth holdTexts
   hold-both-made =
       let none = roman-left in
       let all = text-left in
-      let own = taken-own (bytes "\\mathrm{") romanMark romanTurns in
-      let most = taken-within (bytes "\\mathrm{") romanMark romanMark romanTurns in
-      let other = taken-other (bytes "\\mathrm{") romanMark textMark refl romanTurns in
+      let own = taken-own (bytes "\\mathrm{") romanMark (romanTurns s) in
+      let most = taken-within (bytes "\\mathrm{") romanMark romanMark (romanTurns s) in
+      let other = taken-other (bytes "\\mathrm{") romanMark textMark refl (romanTurns s) in
       record {
         texts = texts-plain;
-        romans = every-enclosing (romans .blocks) (taken-begins (bytes "mathrm{") romanMark romanTurns) (omega arith);
+        romans = every-enclosing (romansTaken s .blocks) (taken-begins (bytes "mathrm{") romanMark (romanTurns s)) (omega arith);
         text-marks = omega arith;
         roman-marks = omega arith;
       }

@@ -14,7 +14,9 @@ use lib.ListN.{length, length-append}
 use borrow.Author.Tests.{eqb-true}
 use Rattle.spec.specs.Symbols.{textMark, romanMark}
 use Rattle.spec.specs.Held.{Held, filled, inFull}
-use Rattle.held_laws.specs.Marks.{isMark, hasMark, count, first, rest, order, fill, blockAt, joined, or-false, not-text-mark, has-mark-append}
+use Rattle.spec.specs.Laws.Booleans.{or-neither}
+use Rattle.spec.specs.Laws.Held.{filled-none}
+use Rattle.held_laws.specs.Marks.{isMark, hasMark, count, first, rest, order, fill, blockAt, joined, not-text-mark, has-mark-append}
 use Rattle.held_laws.specs.WellMade.{WellMade, count-append, block-append, block-front}
 use Rattle.held_laws.specs.Numbering.{not-both}
 
@@ -23,11 +25,6 @@ returned mark block k [] = []
 returned mark block k (b ∷ s) = cond (eqb b mark) (block k ++ returned mark block (suc k) s) (b ∷ returned mark block k s)
 
 -- ---- by list and by number
-pub filled-none : (mark : ℕ) (s : List ℕ) → filled mark [] s ≡ s
-unfolding filled
-filled-none mark [] = refl
-filled-none mark (x ∷ s) = refl
-
 pub filled-returned :
     (mark : ℕ) (block : ℕ → List ℕ) (s : List ℕ) (bs : List (List ℕ)) (k : ℕ) → count mark s ≤ length bs → ((i : ℕ) → i < length bs → block (k + i) ≡ blockAt bs i)
     → filled mark bs s ≡ returned mark block k s
@@ -56,7 +53,7 @@ returned-over : (block : ℕ → List ℕ) (k : ℕ) (x s : List ℕ) → hasMar
 unfolding returned
 returned-over block k [] s e = refl
 returned-over block k (b ∷ x) s e =
-    let parts = or-false (isMark b) (hasMark x) e in
+    let parts = or-neither (isMark b) (hasMark x) e in
     rw (not-text-mark b (parts .0)) (ap (λ l. b ∷ l) (returned-over block k x s (parts .1)))
 
 two-kinds :
@@ -82,8 +79,8 @@ two-kinds block texts free (b ∷ s) a r h =
 unmarked-at : (bs : List (List ℕ)) → hasMark (joined bs) ≡ false → (k : ℕ) → hasMark (blockAt bs k) ≡ false
 unfolding joined blockAt
 unmarked-at [] e k = refl
-unmarked-at (b ∷ bs) e zero = or-false (hasMark b) (hasMark (joined bs)) (sym (has-mark-append b (joined bs)) ∙ e) .0
-unmarked-at (b ∷ bs) e (suc k) = unmarked-at bs (or-false (hasMark b) (hasMark (joined bs)) (sym (has-mark-append b (joined bs)) ∙ e) .1) k
+unmarked-at (b ∷ bs) e zero = or-neither (hasMark b) (hasMark (joined bs)) (sym (has-mark-append b (joined bs)) ∙ e) .0
+unmarked-at (b ∷ bs) e (suc k) = unmarked-at bs (or-neither (hasMark b) (hasMark (joined bs)) (sym (has-mark-append b (joined bs)) ∙ e) .1) k
 
 -- ---- counts
 -- each mark gives way to a block

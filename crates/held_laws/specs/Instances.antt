@@ -4,22 +4,23 @@
 --     fineRows                     the test of a table's rows, computed for both tables
 --     definitions-made, rows-made  so a run of definitions, and of a table, keeps what is held well made
 use mathlib.Core.Path.{_≡_, refl, sym, ap, ap₂, _∙_, subst}
-use mathlib.Core.Bool.{Bool, true, false, not, cond, _&&_, _||_, false≢true}
+use mathlib.Core.Bool.{Bool, true, false, not, cond, _&&_, _||_, false≢true, and-false, and-true}
 use mathlib.Core.List.{List, [], _∷_, _++_}
 use Prim.Native.Nat.{ℕ, _<_}
 use native.Mathlib.Omega.{arith}
 use lib.Dec.{eqb, leb, ltb}
 use lib.ListN.{length}
 use borrow.Author.Tests.{eqb-true, leb-true, lt-leb, not-true, not-false}
-use Rattle.spec.specs.Symbols.{is, digit, letter, alnum, wordly, foreign, head, all, any, empty, starts, textMark, romanMark}
-use Rattle.spec.specs.Sweep.{Turn, Rule, sweep, replacing}
+use Rattle.spec.specs.Symbols.{is, digit, letter, alnum, wordly, foreign, head, all, any, empty, textMark, romanMark}
+use Rattle.spec.specs.Sweep.{Rule, sweep, replacing}
 use Rattle.spec.specs.Result.{Result, passed, refused, _then_, mostSymbols}
 use Rattle.spec.specs.Held.{Held, withText, inFull, heldStage}
 use Rattle.spec.specs.Table.{Definition, faultyName, faultyLatex, faulty, named as named-twice, Rearranged, nothing, put}
 use Rattle.spec.specs.Definitions.{defined, applyDefinition, applyDefinitions}
 use Rattle.spec.specs.Rows.{Row, greekLetters, wordMappings}
 use Rattle.spec.specs.Words.{greek, word, literal, wordOrLiteral, heldRows}
-use Rattle.held_laws.specs.Marks.{isMark, hasMark, or-false, and-true, and-false}
+use Rattle.spec.specs.Laws.Booleans.{or-neither, and-parts}
+use Rattle.held_laws.specs.Marks.{isMark, hasMark}
 use Rattle.held_laws.specs.WellMade.{WellMade}
 use Rattle.held_laws.specs.Rewriting.{Name, Between, sweep-made}
 
@@ -36,13 +37,13 @@ unmarked f t r x e = go (eqb x textMark) refl (eqb x romanMark) refl
 any-unmarked : (f : ℕ → Bool) → f textMark ≡ true → f romanMark ≡ true → (s : List ℕ) → any f s ≡ false → hasMark s ≡ false
 any-unmarked f t r [] e = refl
 any-unmarked f t r (x ∷ s) e =
-    let both = or-false (f x) (any f s) e in
+    let both = or-neither (f x) (any f s) e in
     ap₂ (λ a b. a || b) (unmarked f t r x (both .0)) (any-unmarked f t r s (both .1))
 
 all-unmarked : (f : ℕ → Bool) → f textMark ≡ false → f romanMark ≡ false → (s : List ℕ) → all f s ≡ true → hasMark s ≡ false
 all-unmarked f t r [] e = refl
 all-unmarked f t r (x ∷ s) e =
-    let both = and-true (f x) (all f s) e in
+    let both = and-parts (f x) (all f s) e in
     ap₂ (λ a b. a || b) (unmarked (λ y. not (f y)) (ap not t) (ap not r) x (ap not (both .0))) (all-unmarked f t r s (both .1))
 
 letter-no-digit : (x : ℕ) → letter x ≡ true → digit x ≡ false
@@ -60,7 +61,7 @@ letter-no-digit x e = go (leb 97 x) refl (leb 65 x) refl e
 letter-start : (w : List ℕ) → letter (head w) && all alnum w ≡ true → Name w
 letter-start [] e = absurd (false≢true e)
 letter-start (x ∷ w) e =
-    let both = and-true (letter x) (all alnum (x ∷ w)) e in
+    let both = and-parts (letter x) (all alnum (x ∷ w)) e in
     record { start = x; more = w; split = refl; no-digit = letter-no-digit x (both .0); free = all-unmarked alnum refl refl (x ∷ w) (both .1) }
 
 -- a definition that number 3 lets pass
@@ -108,8 +109,8 @@ fine r e = go (r .typst) refl e
     go : (w : List ℕ) → r .typst ≡ w → not (empty w) && (not (digit (head w)) && (not (hasMark w) && not (hasMark (r .latex)))) ≡ true → Fine r
     go [] p e = absurd (false≢true e)
     go (x ∷ w) p e =
-        let one = and-true (not (digit x)) (not (hasMark (x ∷ w)) && not (hasMark (r .latex))) e in
-        let two = and-true (not (hasMark (x ∷ w))) (not (hasMark (r .latex))) (one .1) in
+        let one = and-parts (not (digit x)) (not (hasMark (x ∷ w)) && not (hasMark (r .latex))) e in
+        let two = and-parts (not (hasMark (x ∷ w))) (not (hasMark (r .latex))) (one .1) in
         record {
           a-name = record { start = x; more = w; split = p; no-digit = not-true (digit x) (one .0); free = ap hasMark p ∙ not-true (hasMark (x ∷ w)) (two .0) };
           free = not-true (hasMark (r .latex)) (two .1);
@@ -119,11 +120,6 @@ either-free : (t : Bool) (x y : List ℕ) → hasMark x ≡ false → hasMark y 
 either-free true x y a b = a
 either-free false x y a b = b
 
--- with no condition, wherever the name stands
-always : (t : Bool) (a b : Turn) → cond t a b ≡ cond (t && true) a b
-always true a b = refl
-always false a b = refl
-
 pub greek-between : (r : Row) → fineRow r ≡ true → Between (greek r)
 greek-between r e =
     let f = fine r e in
@@ -132,7 +128,7 @@ greek-between r e =
       allowed = λ before behind. true;
       fresh = λ before behind. cond (is "\\" before || (letter before || letter behind)) (r .typst) (r .latex);
       a-name = f .a-name;
-      same = λ before s. always (starts (r .typst) s) _ _;
+      same = λ before s. rw and-true;
       plain = λ before behind. either-free (is "\\" before || (letter before || letter behind)) (r .typst) (r .latex) (f .a-name .free) (f .free);
       allowed-before = λ behind. refl;
       allowed-behind = λ before. refl;
@@ -150,7 +146,7 @@ word-between r e = go (literal (r .typst)) (fine r e)
           allowed = λ before behind. true;
           fresh = λ before behind. r .latex;
           a-name = f .a-name;
-          same = λ before s. always (starts (r .typst) s) _ _;
+          same = λ before s. rw and-true;
           plain = λ before behind. f .free;
           allowed-before = λ behind. refl;
           allowed-behind = λ before. refl;
@@ -204,9 +200,9 @@ pub sound-table : (ds : List Definition) → faulty ds ≡ false → EverySound 
 unfolding faulty EverySound
 sound-table [] e = tt
 sound-table (d ∷ ds) e =
-    let one = or-false (faultyName (d .name)) (faultyLatex (d .latex) || (named-twice (d .name) ds || faulty ds)) e in
-    let two = or-false (faultyLatex (d .latex)) (named-twice (d .name) ds || faulty ds) (one .1) in
-    (record { name = one .0; latex = two .0 }, sound-table ds (or-false (named-twice (d .name) ds) (faulty ds) (two .1) .1))
+    let one = or-neither (faultyName (d .name)) (faultyLatex (d .latex) || (named-twice (d .name) ds || faulty ds)) e in
+    let two = or-neither (faultyLatex (d .latex)) (named-twice (d .name) ds || faulty ds) (one .1) in
+    (record { name = one .0; latex = two .0 }, sound-table ds (or-neither (named-twice (d .name) ds) (faulty ds) (two .1) .1))
 
 sound-put : (d : Definition) (es fs : List Definition) → Sound d → EverySound (es ++ fs) → EverySound (es ++ d ∷ fs)
 unfolding EverySound
@@ -235,5 +231,5 @@ pub rows-made :
 unfolding heldRows
 rows-made rule each [] f made e = subst WellMade (passed-one e) made
 rows-made rule each (r ∷ rs) f {h} {g} made e =
-    let both = and-true (fineRow r) (fineRows rs) f in
+    let both = and-parts (fineRow r) (fineRows rs) f in
     rows-made rule each rs (both .1) (sweep-made (each r (both .0)) made) (stage-made (sweep (rule r) 0 0) h (heldRows rule rs) e)

@@ -16,7 +16,6 @@ pub mod Numbering
 pub mod InFull
 pub mod PutBack
 pub mod TakeOut
-pub mod Blockless
 pub mod Holding
 pub mod Rewriting
 pub mod Instances

@@ -13,16 +13,15 @@ use lib.ListN.{length, take, drop, length-append, length-drop, take-append-drop}
 use lib.Seq.{take-append-le, take-append-seam}
 use borrow.Author.Tests.{eq-eqb}
 use Rattle.spec.specs.Symbols.{bytes, starts, textMark, romanMark}
-use Rattle.spec.specs.Laws.Symbols.{starts-long}
+use Rattle.spec.specs.Laws.Symbols.{starts-long, starts-split}
 use Rattle.spec.specs.Closing.{findMatchingBrace}
-use Rattle.spec.specs.Held.{Taken, takeOut, holdTexts, holdBoth, filled, inFull}
+use Rattle.spec.specs.Held.{Taken, holdTexts, holdBoth, filled, inFull}
+use Rattle.spec.specs.Laws.Held.{filled-none}
 use Rattle.held_laws.specs.Marks.{hasMark, count, joined}
-use Rattle.held_laws.specs.Replacing.{starts-split}
 use Rattle.held_laws.specs.WellMade.{count-append, joined-append, unmarked-count}
-use Rattle.held_laws.specs.TakeOut.{close-behind, Turns, ended, unclosed, passing, holding, turns}
-use Rattle.held_laws.specs.Holding.{taken-other, taken-own, taken-within}
+use Rattle.held_laws.specs.TakeOut.{close-behind, Turns, ended, unclosed, passing, holding}
+use Rattle.held_laws.specs.Holding.{taken-other, taken-own, taken-within, textsTaken, textTurns, romansTaken, romanTurns, roman-left}
 use Rattle.held_laws.specs.Numbering.{not-both}
-use Rattle.held_laws.specs.InFull.{filled-none}
 
 -- ---- counts and lengths
 count-most : (c : ℕ) (s : List ℕ) → count c s ≤ length s
@@ -130,78 +129,63 @@ module _ (name : List ℕ) (mark : ℕ) where
 
 -- ---- both hold-outs
 module _ (s : List ℕ) (free : hasMark s ≡ false) where
-  abbrev texts : Taken
-  texts = takeOut (bytes "\\text{") textMark 0 s
-
-  abbrev textTurns : Turns (bytes "\\text{") textMark s texts
-  textTurns = turns (bytes "\\text{") textMark s
-
-  abbrev romans : Taken
-  romans = takeOut (bytes "\\mathrm{") romanMark 0 (texts .left)
-
-  abbrev romanTurns : Turns (bytes "\\mathrm{") romanMark (texts .left) romans
-  romanTurns = turns (bytes "\\mathrm{") romanMark (texts .left)
-
-  no-roman : count romanMark (texts .left) ≡ 0
-  no-roman = let none = unmarked-count s free .1 in let other = taken-other (bytes "\\text{") textMark romanMark refl textTurns in omega arith
-
   pub hold-texts-full : inFull (holdTexts s) ≡ s
   unfolding inFull holdTexts
   hold-texts-full =
-      ap (filled textMark (texts .blocks)) (filled-none romanMark (texts .left))
-      ∙ taken-filled (bytes "\\text{") textMark (unmarked-count s free .0) textTurns
+      ap (filled textMark (textsTaken s .blocks)) (filled-none romanMark (textsTaken s .left))
+      ∙ taken-filled (bytes "\\text{") textMark (unmarked-count s free .0) (textTurns s)
 
   pub hold-both-full : inFull (holdBoth s) ≡ s
   unfolding inFull holdBoth holdTexts
   hold-both-full =
-      ap (filled textMark (texts .blocks)) (taken-filled (bytes "\\mathrm{") romanMark no-roman romanTurns)
-      ∙ taken-filled (bytes "\\text{") textMark (unmarked-count s free .0) textTurns
+      ap (filled textMark (textsTaken s .blocks)) (taken-filled (bytes "\\mathrm{") romanMark (roman-left s free) (romanTurns s))
+      ∙ taken-filled (bytes "\\text{") textMark (unmarked-count s free .0) (textTurns s)
 
   module _ (short : length s ≤ 8192) where
     pub texts-few : (length (joined (holdTexts s .texts)) ≤ 8192) × (4 * length (holdTexts s .texts) ≤ 4680)
     unfolding holdTexts
     texts-few =
-        let l = taken-length (bytes "\\text{") textMark textTurns in
-        let m = taken-long (bytes "\\text{") textMark (omega arith) textTurns in
-        let own = taken-own (bytes "\\text{") textMark textTurns in
+        let l = taken-length (bytes "\\text{") textMark (textTurns s) in
+        let m = taken-long (bytes "\\text{") textMark (omega arith) (textTurns s) in
+        let own = taken-own (bytes "\\text{") textMark (textTurns s) in
         let none = unmarked-count s free .0 in
-        let within = taken-within (bytes "\\text{") textMark textMark textTurns in
-        let most = count-most textMark (texts .left) in
+        let within = taken-within (bytes "\\text{") textMark textMark (textTurns s) in
+        let most = count-most textMark (textsTaken s .left) in
         (omega arith, omega arith)
 
     -- a text with marks is no longer than the text
     pub texts-short : length (holdTexts s .text) ≤ 8192
     unfolding holdTexts
     texts-short =
-        let l = taken-length (bytes "\\text{") textMark textTurns in
-        let m = taken-long (bytes "\\text{") textMark (omega arith) textTurns in
+        let l = taken-length (bytes "\\text{") textMark (textTurns s) in
+        let m = taken-long (bytes "\\text{") textMark (omega arith) (textTurns s) in
         omega arith
 
     pub both-short : length (holdBoth s .text) ≤ 8192
     unfolding holdBoth holdTexts
     both-short =
-        let l = taken-length (bytes "\\text{") textMark textTurns in
-        let m = taken-long (bytes "\\text{") textMark (omega arith) textTurns in
-        let l′ = taken-length (bytes "\\mathrm{") romanMark romanTurns in
-        let m′ = taken-long (bytes "\\mathrm{") romanMark (omega arith) romanTurns in
+        let l = taken-length (bytes "\\text{") textMark (textTurns s) in
+        let m = taken-long (bytes "\\text{") textMark (omega arith) (textTurns s) in
+        let l′ = taken-length (bytes "\\mathrm{") romanMark (romanTurns s) in
+        let m′ = taken-long (bytes "\\mathrm{") romanMark (omega arith) (romanTurns s) in
         omega arith
 
     pub both-few : (length (joined (holdBoth s .texts ++ holdBoth s .romans)) ≤ 9362) × (4 * length (holdBoth s .texts ++ holdBoth s .romans) ≤ 4680)
     unfolding holdBoth holdTexts count
     both-few =
-        let l = taken-length (bytes "\\text{") textMark textTurns in
-        let m = taken-long (bytes "\\text{") textMark (omega arith) textTurns in
-        let own = taken-own (bytes "\\text{") textMark textTurns in
+        let l = taken-length (bytes "\\text{") textMark (textTurns s) in
+        let m = taken-long (bytes "\\text{") textMark (omega arith) (textTurns s) in
+        let own = taken-own (bytes "\\text{") textMark (textTurns s) in
         let none = unmarked-count s free .0 in
-        let within = taken-within (bytes "\\text{") textMark textMark textTurns in
-        let l′ = taken-length (bytes "\\mathrm{") romanMark romanTurns in
-        let m′ = taken-marks (bytes "\\mathrm{") romanMark textMark refl (omega arith) romanTurns in
-        let own′ = taken-own (bytes "\\mathrm{") romanMark romanTurns in
-        let none′ = no-roman in
-        let within′ = taken-within (bytes "\\mathrm{") romanMark romanMark romanTurns in
-        let other = taken-other (bytes "\\mathrm{") romanMark textMark refl romanTurns in
-        let kinds = count-both (romans .left) in
-        let j = ap length (joined-append (texts .blocks) (romans .blocks)) in
-        let j′ = length-append (joined (texts .blocks)) (joined (romans .blocks)) in
-        let k = length-append (texts .blocks) (romans .blocks) in
+        let within = taken-within (bytes "\\text{") textMark textMark (textTurns s) in
+        let l′ = taken-length (bytes "\\mathrm{") romanMark (romanTurns s) in
+        let m′ = taken-marks (bytes "\\mathrm{") romanMark textMark refl (omega arith) (romanTurns s) in
+        let own′ = taken-own (bytes "\\mathrm{") romanMark (romanTurns s) in
+        let none′ = roman-left s free in
+        let within′ = taken-within (bytes "\\mathrm{") romanMark romanMark (romanTurns s) in
+        let other = taken-other (bytes "\\mathrm{") romanMark textMark refl (romanTurns s) in
+        let kinds = count-both (romansTaken s .left) in
+        let j = ap length (joined-append (textsTaken s .blocks) (romansTaken s .blocks)) in
+        let j′ = length-append (joined (textsTaken s .blocks)) (joined (romansTaken s .blocks)) in
+        let k = length-append (textsTaken s .blocks) (romansTaken s .blocks) in
         (omega arith, omega arith)

@@ -11,8 +11,9 @@ use native.Mathlib.Omega.{arith}
 use lib.Dec.{eqb, leb, ltb}
 use borrow.Author.Tests.{eqb-true, eqb-false}
 use Rattle.held_laws.specs.Decimal.{decimal}
-use Rattle.held_laws.specs.Marks.{isMark, hasMark, first, rest, or-false, not-text-mark}
+use Rattle.held_laws.specs.Marks.{isMark, hasMark, first, rest, not-text-mark}
 use Rattle.held_laws.specs.Replacing.{Unmarked}
+use Rattle.spec.specs.Laws.Booleans.{or-neither}
 
 -- the digits stand here, and a mark behind them
 unfoldable pub typed : List ℕ → List ℕ → Bool
@@ -40,7 +41,7 @@ nestedBelow block (suc n) = nestedBelow block n || hasMark (block n)
 pub marked-none : (s : List ℕ) → hasMark s ≡ false → Unmarked s
 unfolding Unmarked
 marked-none [] e = tt
-marked-none (b ∷ s) e = let both = or-false (isMark b) (hasMark s) e in (not-text-mark b (both .0), marked-none s (both .1))
+marked-none (b ∷ s) e = let both = or-neither (isMark b) (hasMark s) e in (not-text-mark b (both .0), marked-none s (both .1))
 
 pub none-below : (block : ℕ → List ℕ) (n : ℕ) → nestedBelow block n ≡ false → (k : ℕ) → k < n → hasMark (block k) ≡ false
 unfolding nestedBelow
@@ -48,7 +49,7 @@ none-below block zero e k h = absurd (not-suc-le-zero h)
 none-below block (suc n) e k h = go (eqb k n) refl (none-below block n (parts .0) k)
   where
     parts : (nestedBelow block n ≡ false) × (hasMark (block n) ≡ false)
-    parts = or-false (nestedBelow block n) (hasMark (block n)) e
+    parts = or-neither (nestedBelow block n) (hasMark (block n)) e
 
     go : (t : Bool) → eqb k n ≡ t → (k < n → hasMark (block k) ≡ false) → hasMark (block k) ≡ false
     go true q more = rw (eqb-true k n q) (parts .1)

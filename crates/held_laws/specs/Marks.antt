@@ -5,13 +5,14 @@
 --     fill         something for each mark, by its number: its placeholder, or its block
 --     blockAt      the block of a number
 use mathlib.Core.Path.{_≡_, refl, ap}
-use mathlib.Core.Bool.{Bool, true, false, cond, _&&_, _||_, false≢true, true≢false}
+use mathlib.Core.Bool.{Bool, true, false, cond, _&&_, _||_}
 use mathlib.Core.List.{List, [], _∷_, _++_}
 use Prim.Native.Nat.{ℕ, zero, suc, _<_}
 use native.Mathlib.Omega.{arith}
 use lib.Dec.{eqb, ltb}
 use borrow.Author.Tests.{eqb-true}
 use Rattle.spec.specs.Symbols.{bytes, any, textMark, romanMark}
+use Rattle.spec.specs.Laws.Booleans.{or-neither}
 
 abbrev pub isMark : ℕ → Bool
 isMark b = eqb b textMark || eqb b romanMark
@@ -61,24 +62,8 @@ joined [] = []
 joined (b ∷ bs) = b ++ joined bs
 
 -- ---- tests
-pub or-false : (x y : Bool) → x || y ≡ false → (x ≡ false) × (y ≡ false)
-or-false true y e = absurd (true≢false e)
-or-false false y e = (refl, e)
-
-pub or-true : (x y : Bool) → y ≡ true → x || y ≡ true
-or-true true y e = refl
-or-true false y e = e
-
-pub and-true : (x y : Bool) → x && y ≡ true → (x ≡ true) × (y ≡ true)
-and-true true y e = (refl, e)
-and-true false y e = absurd (false≢true e)
-
-pub and-false : (x : Bool) → x && false ≡ false
-and-false true = refl
-and-false false = refl
-
 pub not-text-mark : (b : ℕ) → isMark b ≡ false → eqb b textMark ≡ false
-not-text-mark b e = or-false (eqb b textMark) (eqb b romanMark) e .0
+not-text-mark b e = or-neither (eqb b textMark) (eqb b romanMark) e .0
 
 pub mark-small : (b : ℕ) → isMark b ≡ true → b < 48
 mark-small b e = go (eqb b textMark) refl e
@@ -98,4 +83,4 @@ has-mark-append (b ∷ x) y = go (isMark b) (has-mark-append x y)
 pub fill-unmarked : (f : ℕ → List ℕ) (ks s : List ℕ) → hasMark s ≡ false → fill f ks s ≡ s
 unfolding fill
 fill-unmarked f ks [] e = refl
-fill-unmarked f ks (b ∷ s) e = let parts = or-false (isMark b) (hasMark s) e in rw (parts .0) (ap (λ l. b ∷ l) (fill-unmarked f ks s (parts .1)))
+fill-unmarked f ks (b ∷ s) e = let parts = or-neither (isMark b) (hasMark s) e in rw (parts .0) (ap (λ l. b ∷ l) (fill-unmarked f ks s (parts .1)))

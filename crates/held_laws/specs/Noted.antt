@@ -4,7 +4,7 @@
 --     lost-noted     that is what the rounds lose
 --     nested-joined  some block holds a mark: all blocks, one behind the other, do
 use mathlib.Core.Path.{_≡_, refl, sym, ap, ap₂, _∙_}
-use mathlib.Core.Bool.{Bool, true, false, cond, _&&_, _||_, false≢true}
+use mathlib.Core.Bool.{Bool, true, false, cond, _&&_, _||_, false≢true, and-false, or-false}
 use mathlib.Core.List.{List, [], _∷_}
 use mathlib.Core.Option.{Option, none, some}
 use Prim.Native.Nat.{ℕ, zero, suc, _<_}
@@ -12,7 +12,7 @@ use native.Mathlib.Omega.{arith}
 use lib.Dec.{leb, ltb, eqb}
 use lib.ListN.{length}
 use borrow.Author.Tests.{eqb-true, eqb-false, ltb-true, ltb-false, lt-ltb, le-ltb}
-use Rattle.held_laws.specs.Marks.{isMark, hasMark, first, rest, numbersBelow, blockAt, joined, and-false, has-mark-append}
+use Rattle.held_laws.specs.Marks.{isMark, hasMark, first, rest, numbersBelow, blockAt, joined, has-mark-append}
 use Rattle.held_laws.specs.Losing.{taken, lostAt, lostBelow, nestedBelow}
 use Rattle.held_laws.specs.Numeral.{numeral, reads, read-typed}
 
@@ -55,10 +55,6 @@ abbrev within : ℕ → ℕ → ℕ → Option ℕ → Bool
 within n k j none = false
 within n k j (some t) = ltb t n && (ltb t k && leb t j)
 
-or-none : (x : Bool) → x || false ≡ x
-or-none true = refl
-or-none false = refl
-
 within-step : (n k j : ℕ) (f : Option ℕ) → within n k j f || (ltb n k && (reads n f && leb n j)) ≡ within (suc n) k j f
 within-step n k j none = and-false (ltb n k)
 within-step n k j (some t) = go (eqb n t) refl
@@ -72,7 +68,7 @@ within-step n k j (some t) = go (eqb n t) refl
 
     go : (e : Bool) → eqb n t ≡ e → (ltb t n && (ltb t k && leb t j)) || (ltb n k && (e && leb n j)) ≡ ltb t (suc n) && (ltb t k && leb t j)
     go true q = rw (eqb-true n t q) (same t)
-    go false q = ap (λ x. (ltb t n && (ltb t k && leb t j)) || x) (and-false (ltb n k)) ∙ or-none _ ∙ ap (λ x. x && (ltb t k && leb t j)) (other (ltb t n) refl (eqb-false n t q))
+    go false q = ap (λ x. (ltb t n && (ltb t k && leb t j)) || x) (and-false (ltb n k)) ∙ or-false _ ∙ ap (λ x. x && (ltb t k && leb t j)) (other (ltb t n) refl (eqb-false n t q))
 
 taken-within : (n k : ℕ) (ks s : List ℕ) → takenBelow n k ks s ≡ within n k (first ks) (numeral s)
 unfolding takenBelow taken
@@ -119,7 +115,7 @@ lost-noted n (b ∷ s) ks e = lost-step n b ks s ∙ go (isMark b) (ltb (first k
 -- ---- some block holds a mark
 nested-shift : (b : List ℕ) (bs : List (List ℕ)) (n : ℕ) → nestedBelow (blockAt (b ∷ bs)) (suc n) ≡ hasMark b || nestedBelow (blockAt bs) n
 unfolding nestedBelow blockAt
-nested-shift b bs zero = sym (or-none (hasMark b))
+nested-shift b bs zero = sym (or-false (hasMark b))
 nested-shift b bs (suc n) = ap (λ t. t || hasMark (blockAt bs n)) (nested-shift b bs n) ∙ go (hasMark b)
   where
     go : (x : Bool) → x || nestedBelow (blockAt bs) n || hasMark (blockAt bs n) ≡ x || (nestedBelow (blockAt bs) n || hasMark (blockAt bs n))

@@ -14,7 +14,8 @@ use lib.ListN.{length}
 use borrow.Author.Tests.{eqb-true, eqb-false, lt-ltb}
 use Rattle.spec.specs.Symbols.{textMark, romanMark}
 use Rattle.spec.specs.Held.{placeholder, marks, numbered, numberedRomans}
-use Rattle.held_laws.specs.Marks.{isMark, hasMark, count, first, rest, order, fill, numbersBelow, occurs, blockAt, joined, or-false, or-true, has-mark-append, fill-unmarked}
+use Rattle.spec.specs.Laws.Booleans.{or-neither, or-right}
+use Rattle.held_laws.specs.Marks.{isMark, hasMark, count, first, rest, order, fill, numbersBelow, occurs, blockAt, joined, has-mark-append, fill-unmarked}
 use Rattle.held_laws.specs.Stored.{Fair}
 use Rattle.held_laws.specs.WellMade.{Every, Plain, Enclosing, count-append, marks-count, unmarked-count}
 
@@ -88,7 +89,7 @@ roman-occurs k (x ∷ s) romans t r h g = go (eqb x textMark) refl (eqb x romanM
         (cond o (r ∷ elim romans as (λ _. List ℕ) [ [] ↦ numbers [] t (suc r) s | b ∷ bs ↦ numbers bs (t + marks b) (suc r) s ]) (numbers romans t r s)) in
         cond (m || o) (eqb (first ks) k || occurs k (rest ks) s) (occurs k ks s) ≡ true)
     go true p true q romans g more = not-both x p q
-    go true p false q romans g more = or-true (eqb t k) _ (more romans (suc t) r h g)
+    go true p false q romans g more = or-right (eqb t k) _ (more romans (suc t) r h g)
     go false p true q romans g more = met (eqb r k) refl romans
       where
         met : (e : Bool) → eqb r k ≡ e → (romans : List (List ℕ))
@@ -111,7 +112,7 @@ numbers-plain (x ∷ s) romans t r e =
         → elim romans as (λ _. List ℕ) [ [] ↦ numbers [] t (suc r) s | b ∷ bs ↦ numbers bs (t + marks b) (suc r) s ] ≡ order t (suc r) s
     behind [] e more = more [] t (suc r) e
     behind (b ∷ bs) e more =
-        let both = or-false (hasMark b) (hasMark (joined bs)) (sym (has-mark-append b (joined bs)) ∙ e) in
+        let both = or-neither (hasMark b) (hasMark (joined bs)) (sym (has-mark-append b (joined bs)) ∙ e) in
         let none : t + marks b ≡ t = ap (λ n. t + n) (marks-count b ∙ unmarked-count b (both .0) .0) ∙ add-zero t in
         ap (λ n. numbers bs n (suc r) s) none ∙ more bs t (suc r) (both .1)
 
@@ -140,7 +141,7 @@ fair-at k (u ∷ us) (b ∷ bs) h (suc i) = subst (λ n. Fair n (blockAt us i) (
 unmarked-below : (k : ℕ) (s : List ℕ) → hasMark s ≡ false → numbersBelow k [] s ≡ true
 unfolding numbersBelow
 unmarked-below k [] e = refl
-unmarked-below k (b ∷ s) e = let parts = or-false (isMark b) (hasMark s) e in rw (parts .0) (unmarked-below k s (parts .1))
+unmarked-below k (b ∷ s) e = let parts = or-neither (isMark b) (hasMark s) e in rw (parts .0) (unmarked-below k s (parts .1))
 
 pub fair-texts : (k : ℕ) (texts us bs : List (List ℕ)) → Every Plain texts → AllFair (k + length texts) us bs → AllFair k (texts ++ us) (texts ++ bs)
 unfolding AllFair Every

@@ -6,15 +6,17 @@ use mathlib.Core.Path.{_≡_, refl, sym, ap, _∙_, subst}
 use mathlib.Core.Bool.{Bool, true, false, cond, not, _&&_, false≢true}
 use mathlib.Core.Logic.{_⊎_, inl, inr}
 use mathlib.Core.List.{List, [], _∷_}
-use mathlib.Core.Option.{Option, none, some}
+use mathlib.Core.Option.{Option, none, some, Option·none-ne-some}
 use Prim.Native.Nat.{ℕ, _+_, _-_, _*_, _<_}
 use native.Mathlib.Omega.{arith}
-use lib.Dec.{leb, eqb}
+use lib.Dec.{eqb}
 use lib.ListN.{getD}
-use borrow.Author.Tests.{eq-eqb, ne-eqb, eqb-true, eqb-false, le-leb, leb-true, not-false}
+use borrow.Author.Tests.{eq-eqb, ne-eqb, eqb-true, eqb-false, le-leb, not-false}
 use Rattle.spec.specs.Symbols.{is, digit, textMark, romanMark}
+use Rattle.spec.specs.Laws.Booleans.{and-parts}
+use Rattle.spec.specs.Laws.Symbols.{digit-range}
 use Rattle.held_laws.specs.Decimal.{decimal, Digit, Digits, decimal-digits}
-use Rattle.held_laws.specs.Marks.{isMark, and-true}
+use Rattle.held_laws.specs.Marks.{isMark}
 use Rattle.held_laws.specs.Losing.{typed}
 use Rattle.held_laws.specs.Neat.{value, Neat, decimal-value, decimal-neat, neat-decimal}
 
@@ -40,7 +42,7 @@ horner-typed [] [] v g e = absurd (false≢true e)
 horner-typed [] (b ∷ s) v g e = rw e
 horner-typed (d ∷ ds) [] v g e = absurd (false≢true e)
 horner-typed (d ∷ ds) (b ∷ s) v g e =
-    let both = and-true (eqb b d) (typed ds s) e in
+    let both = and-parts (eqb b d) (typed ds s) e in
     let same = eqb-true b d (both .0) in
     rw (same, digit-free (g .0), le-leb 48 d (g .0 .low), le-leb d 57 (g .0 .high)) (horner-typed ds s (10 * v + (d - 48)) (g .1) (both .1))
 
@@ -48,13 +50,6 @@ horner-typed (d ∷ ds) (b ∷ s) v g e =
 abbrev found : Option ℕ → ℕ
 found none = 0
 found (some k) = k
-
-abbrev isFound : Option ℕ → Bool
-isFound none = false
-isFound (some k) = true
-
-none-found : {A : Type 0} (i : ℕ) → none ≡ some i → A
-none-found i e = absurd (false≢true (ap isFound e))
 
 record Run (v u : ℕ) (s : List ℕ) : Type 0 where
   pub run : List ℕ
@@ -69,24 +64,24 @@ run-none v b s e = record { run = []; digits = tt; here = e; worths = refl }
 run-more : (v u b : ℕ) (s : List ℕ) → digit b ≡ true → Run (10 * v + (b - 48)) u s → Run v u (b ∷ s)
 unfolding typed value Digits
 run-more v u b s e r =
-    let both = and-true (leb 48 b) (leb b 57) e in
+    let range = digit-range b e in
     record {
       run = b ∷ r .run;
-      digits = (record { low = leb-true 48 b (both .0); high = leb-true b 57 (both .1) }, r .digits);
+      digits = (record { low = range .0; high = range .1 }, r .digits);
       here = rw (eq-eqb b b refl) (r .here);
       worths = r .worths;
     }
 
 horner-run : (s : List ℕ) (v u : ℕ) → horner v s ≡ some u → Run v u s
 unfolding horner
-horner-run [] v u e = none-found u e
+horner-run [] v u e = absurd (Option·none-ne-some u e)
 horner-run (b ∷ s) v u e = go (isMark b) refl (digit b) refl (horner-run s (10 * v + (b - 48)) u) e
   where
     go : (m : Bool) → isMark b ≡ m → (d : Bool) → digit b ≡ d → (horner (10 * v + (b - 48)) s ≡ some u → Run (10 * v + (b - 48)) u s)
         → cond m (some v) (cond d (horner (10 * v + (b - 48)) s) none) ≡ some u → Run v u (b ∷ s)
     go true p d q more e = subst (λ u. Run v u (b ∷ s)) (ap found e) (run-none v b s p)
     go false p true q more e = run-more v u b s q (more e)
-    go false p false q more e = none-found u e
+    go false p false q more e = absurd (Option·none-ne-some u e)
 
 -- ---- neat digits are read, and what is read is neat
 numeral-typed : (ds s : List ℕ) → Digits ds → Neat ds → typed ds s ≡ true → numeral s ≡ some (value 0 ds)
@@ -94,7 +89,7 @@ unfolding numeral typed Neat Digits
 numeral-typed [] s g h e = absurd h
 numeral-typed (d ∷ ds) [] g h e = absurd (false≢true e)
 numeral-typed (d ∷ ds) (b ∷ s) g h e =
-    let both = and-true (eqb b d) (typed ds s) e in
+    let both = and-parts (eqb b d) (typed ds s) e in
     let same = eqb-true b d (both .0) in
     rw (same, digit-free (g .0), tail s h (both .1)) (sym (ap (λ c. horner 0 (c ∷ s)) same) ∙ horner-typed (d ∷ ds) (b ∷ s) 0 g e)
   where
@@ -110,7 +105,7 @@ unfolding typed Digits
 no-more [] s g e m = refl
 no-more (x ∷ ds) [] g e m = absurd (false≢true e)
 no-more (x ∷ ds) (c ∷ s) g e m =
-    let same = eqb-true c x (and-true (eqb c x) (typed ds s) e .0) in
+    let same = eqb-true c x (and-parts (eqb c x) (typed ds s) e .0) in
     absurd (false≢true (sym (digit-free (g .0)) ∙ ap isMark (sym same) ∙ m))
 
 run-neat : (ds s : List ℕ) → Digits ds → typed ds s ≡ true → isMark (getD s 0 0) ≡ false → eqb (getD s 0 0) 48 && not (isMark (getD s 1 0)) ≡ false → Neat ds
@@ -121,7 +116,7 @@ run-neat (d ∷ ds) [] g e a b = absurd (false≢true e)
 run-neat (d ∷ ds) (c ∷ s) g e a b = go (eqb c 48) refl b
   where
     both : (eqb c d ≡ true) × (typed ds s ≡ true)
-    both = and-true (eqb c d) (typed ds s) e
+    both = and-parts (eqb c d) (typed ds s) e
 
     go : (t : Bool) → eqb c 48 ≡ t → t && not (isMark (getD s 0 0)) ≡ false → (48 < d) ⊎ ((d ≡ 48) × (ds ≡ []))
     go true q b = inr (sym (eqb-true c d (both .0)) ∙ eqb-true c 48 q, no-more ds s (g .1) (both .1) (not-false _ b))
@@ -132,8 +127,8 @@ unfolding numeral
 numeral-read s i e = go (isMark (getD s 0 0)) refl (eqb (getD s 0 0) 48 && not (isMark (getD s 1 0))) refl e
   where
     go : (m : Bool) → isMark (getD s 0 0) ≡ m → (z : Bool) → eqb (getD s 0 0) 48 && not (isMark (getD s 1 0)) ≡ z → cond m none (cond z none (horner 0 s)) ≡ some i → typed (decimal i) s ≡ true
-    go true p z q e = none-found i e
-    go false p true q e = none-found i e
+    go true p z q e = absurd (Option·none-ne-some i e)
+    go false p true q e = absurd (Option·none-ne-some i e)
     go false p false q e =
         let r = horner-run s 0 i e in
         ap (λ l. typed l s) (sym (neat-decimal (r .run) i (r .digits) (run-neat (r .run) s (r .digits) (r .here) p q) (r .worths))) ∙ r .here

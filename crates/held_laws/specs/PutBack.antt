@@ -10,7 +10,8 @@ use native.Mathlib.Omega.{arith}
 use lib.ListN.{length, length-append}
 use Rattle.spec.specs.Result.{Result, passed, refused}
 use Rattle.spec.specs.Held.{Held, placeholder, numbered, numberedRomans, rustPutBack, putBack, inFull}
-use Rattle.held_laws.specs.Marks.{hasMark, order, fill, numbersBelow, occurs, blockAt, joined, or-false, has-mark-append}
+use Rattle.spec.specs.Laws.Booleans.{or-neither}
+use Rattle.held_laws.specs.Marks.{hasMark, order, fill, numbersBelow, occurs, blockAt, joined, has-mark-append}
 use Rattle.held_laws.specs.Broken.{marked}
 use Rattle.held_laws.specs.Losing.{lostBelow, nestedBelow}
 use Rattle.held_laws.specs.Agree.{after, restored-after, Agrees}
@@ -84,7 +85,7 @@ module _ {h : Held} (made : WellMade h) where
     where
       own : lost h ≡ false → fill (blockAt blocks) ks (h .text) ≡ inFull h
       own e =
-          let none = or-false (hasMark (joined (h .romans))) (noted (order 0 first (h .text)) (h .text)) e .0 in
+          let none = or-neither (hasMark (joined (h .romans))) (noted (order 0 first (h .text)) (h .text)) e .0 in
           ap (λ l. fill (blockAt blocks) l (h .text)) (numbers-plain (h .text) (h .romans) 0 first none) ∙ sym (in-full-fill made none)
 
   pub put-back-lost : putBack h ≡ cond (lost h) (refused 6) (passed (inFull h))

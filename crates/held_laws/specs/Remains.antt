@@ -14,8 +14,9 @@ use lib.ListN.{length, drop, length-append}
 use borrow.Author.Tests.{ne-eqb, eqb-true}
 use Rattle.spec.specs.Symbols.{starts, textMark}
 use Rattle.spec.specs.Held.{placeholder}
+use Rattle.spec.specs.Laws.Symbols.{starts-split, starts-unequal}
 use Rattle.held_laws.specs.Decimal.{decimal, Digit, Digits, decimal-digits}
-use Rattle.held_laws.specs.Replacing.{Unmarked, starts-split, starts-unequal, digit-not, numberMark, here-too, placeholder-long, put, put-none, put-not, put-other, put-mark, put-met, put-over, put-taken}
+use Rattle.held_laws.specs.Replacing.{Unmarked, digit-not, numberMark, here-too, placeholder-long, put, put-none, put-not, put-other, put-mark, put-met, put-over, put-taken}
 use Rattle.held_laws.specs.Broken.{marked}
 
 abbrev pub backslash : ℕ
@@ -71,7 +72,7 @@ narrow-placeholder k = (omega arith, narrow-digits (decimal k) (textMark ∷ [])
 starts-left : (p x s : List ℕ) → Narrow p → starts p (x ++ (backslash ∷ s)) ≡ starts p x
 unfolding Narrow
 starts-left [] x s h = refl
-starts-left (q ∷ p) [] s h = starts-unequal q p backslash s (ne-eqb backslash q (λ e. let low = h .0 in omega arith))
+starts-left (q ∷ p) [] s h = starts-unequal q backslash p s (ne-eqb backslash q (λ e. let low = h .0 in omega arith))
 starts-left (q ∷ p) (b ∷ x) s h = ap (λ t. t && eqb b q) (starts-left p x s (h .1))
 
 module _ (i : ℕ) (fresh : List ℕ) where
@@ -120,10 +121,10 @@ module _ (i : ℕ) (fresh : List ℕ) where
         go : (t : Bool) → here-too i s ≡ t → starts (d ∷ ds ++ (textMark ∷ [])) (puts (textMark ∷ s)) ≡ false
         go true met =
             ap (starts (d ∷ ds ++ (textMark ∷ []))) (put-taken i fresh s met ∙ ap (λ l. l ++ puts (drop (length (numberMark i)) s)) begins)
-            ∙ starts-unequal d (ds ++ (textMark ∷ [])) backslash _ (digit-not backslash h (inr (omega arith)))
+            ∙ starts-unequal d backslash (ds ++ (textMark ∷ [])) _ (digit-not backslash h (inr (omega arith)))
         go false other =
             ap (starts (d ∷ ds ++ (textMark ∷ []))) (put-mark i fresh s other)
-            ∙ starts-unequal d (ds ++ (textMark ∷ [])) textMark _ (digit-not textMark h (inl (omega arith)))
+            ∙ starts-unequal d textMark (ds ++ (textMark ∷ [])) _ (digit-not textMark h (inl (omega arith)))
 
     -- no number comes to stand before a mark
     still-dead : (ds : List ℕ) → Digits ds → (s : List ℕ) → starts (ds ++ (textMark ∷ [])) s ≡ false → starts (ds ++ (textMark ∷ [])) (puts s) ≡ false
@@ -143,7 +144,7 @@ module _ (i : ℕ) (fresh : List ℕ) where
             alone : (t : Bool) → t && true ≡ false → t ≡ false
             alone true e = e
             alone false e = refl
-        go false q false p more e = ap (starts ((d ∷ ds) ++ (textMark ∷ []))) (put-other i fresh b s q) ∙ starts-unequal d (ds ++ (textMark ∷ [])) b (puts s) p
+        go false q false p more e = ap (starts ((d ∷ ds) ++ (textMark ∷ []))) (put-other i fresh b s q) ∙ starts-unequal d b (ds ++ (textMark ∷ [])) (puts s) p
 
     pub remains-put : {s : List ℕ} → Remains i s → Remains (suc i) (puts s)
     remains-put r =

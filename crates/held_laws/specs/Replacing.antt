@@ -10,30 +10,16 @@ use Prim.Native.Nat.{ℕ, zero, suc, pred, _<_}
 use native.Mathlib.Omega.{arith}
 use lib.Dec.{eqb}
 use lib.ListN.{length, drop}
-use borrow.Author.Tests.{eq-eqb, ne-eqb, eqb-true, eqb-false}
+use borrow.Author.Tests.{eq-eqb, ne-eqb, eqb-true}
 use Rattle.spec.specs.Symbols.{starts, textMark}
 use Rattle.spec.specs.Sweep.{Rule, sweep, replacing, replace}
-use Rattle.spec.specs.Laws.Symbols.{starts-other}
+use Rattle.spec.specs.Laws.Symbols.{starts-self, starts-split, starts-unequal}
 use Rattle.spec.specs.Held.{placeholder}
-use Rattle.held_laws.specs.Decimal.{decimal, Digit, Digits, decimal-digits, decimal-one}
-use Rattle.held_laws.specs.Marks.{and-true}
+use Rattle.spec.specs.Laws.Booleans.{and-parts}
+use Rattle.held_laws.specs.Decimal.{decimal, Digit, Digits, decimal-digits, decimal-injective}
 
 -- ---- starts
-pub starts-self : (x s : List ℕ) → starts x (x ++ s) ≡ true
-starts-self [] s = refl
-starts-self (y ∷ x) s = rw (starts-self x s) (eq-eqb y y refl)
-
-pub starts-split : (p s : List ℕ) → starts p s ≡ true → s ≡ p ++ drop (length p) s
-starts-split [] s e = refl
-starts-split (x ∷ p) [] e = absurd (false≢true e)
-starts-split (x ∷ p) (b ∷ s) e =
-    let both = and-true (starts p s) (eqb b x) e in
-    ap₂ (λ a l. a ∷ l) (eqb-true b x (both .1)) (starts-split p s (both .0))
-
 -- the first symbol is another
-pub starts-unequal : (x : ℕ) (p : List ℕ) (b : ℕ) (s : List ℕ) → eqb b x ≡ false → starts (x ∷ p) (b ∷ s) ≡ false
-starts-unequal x p b s e = starts-other x b p s (eqb-false b x e)
-
 -- ---- replacing a pattern that is not empty
 module _ (p : ℕ) (q fresh : List ℕ) where
   abbrev rule : Rule
@@ -82,9 +68,9 @@ pub same-digits : (ds es : List ℕ) → Digits ds → Digits es → (s : List �
 unfolding Digits
 same-digits [] [] h g s e = refl
 same-digits [] (x ∷ es) h g s e = absurd (false≢true (sym (digit-unmarked (g .0)) ∙ e))
-same-digits (d ∷ ds) [] h g s e = absurd (false≢true (sym (starts-unequal d (ds ++ (textMark ∷ [])) textMark s (digit-not textMark (h .0) (inl (omega arith)))) ∙ e))
+same-digits (d ∷ ds) [] h g s e = absurd (false≢true (sym (starts-unequal d textMark (ds ++ (textMark ∷ [])) s (digit-not textMark (h .0) (inl (omega arith)))) ∙ e))
 same-digits (d ∷ ds) (x ∷ es) h g s e =
-    let both = and-true (starts (ds ++ (textMark ∷ [])) (es ++ (textMark ∷ s))) (eqb x d) e in
+    let both = and-parts (starts (ds ++ (textMark ∷ [])) (es ++ (textMark ∷ s))) (eqb x d) e in
     ap₂ (λ a l. a ∷ l) (sym (eqb-true x d (both .1))) (same-digits ds es (h .1) (g .1) s (both .0))
 
 -- ---- putting a block in
@@ -113,7 +99,7 @@ module _ (i : ℕ) (fresh : List ℕ) where
 
   pub put-other : (b : ℕ) (s : List ℕ) → eqb b textMark ≡ false → put (b ∷ s) ≡ b ∷ put s
   unfolding placeholder
-  put-other b s e = replace-other textMark (numberMark i) fresh b s (starts-unequal textMark (numberMark i) b s e)
+  put-other b s e = replace-other textMark (numberMark i) fresh b s (starts-unequal textMark b (numberMark i) s e)
 
   pub put-mark : (s : List ℕ) → here-too i s ≡ false → put (textMark ∷ s) ≡ textMark ∷ put s
   unfolding placeholder
@@ -143,5 +129,5 @@ module _ (i : ℕ) (fresh : List ℕ) where
       ∙ ap (λ l. textMark ∷ l) (put-over (decimal k) (textMark ∷ s) (digits-unmarked (decimal k) (decimal-digits k)))
     where
       go : (t : Bool) → here-too i (decimal k ++ (textMark ∷ s)) ≡ t → t ≡ false
-      go true e = absurd (other (decimal-one i k (same-digits (decimal i) (decimal k) (decimal-digits i) (decimal-digits k) s e)))
+      go true e = absurd (other (decimal-injective i k (same-digits (decimal i) (decimal k) (decimal-digits i) (decimal-digits k) s e)))
       go false e = refl

@@ -16,8 +16,9 @@ use borrow.Author.Tests.{eqb-true}
 use Rattle.spec.specs.Symbols.{digit, head, starts, textMark, romanMark}
 use Rattle.spec.specs.Sweep.{Rule, kept, taken, sweep}
 use Rattle.spec.specs.Held.{Held, withText}
-use Rattle.held_laws.specs.Marks.{isMark, hasMark, count, or-false, has-mark-append}
-use Rattle.held_laws.specs.Replacing.{starts-split}
+use Rattle.spec.specs.Laws.Booleans.{or-neither}
+use Rattle.spec.specs.Laws.Symbols.{starts-split}
+use Rattle.held_laws.specs.Marks.{isMark, hasMark, count, has-mark-append}
 use Rattle.held_laws.specs.WellMade.{WellMade}
 
 pub record Name (w : List ℕ) : Type 0 where
@@ -63,7 +64,7 @@ marks-append (b ∷ x) y = go (isMark b) (marks-append x y)
 unmarked-marks : (s : List ℕ) → hasMark s ≡ false → marksOf s ≡ []
 unfolding marksOf
 unmarked-marks [] e = refl
-unmarked-marks (b ∷ s) e = let both = or-false (isMark b) (hasMark s) e in rw (both .0) (unmarked-marks s (both .1))
+unmarked-marks (b ∷ s) e = let both = or-neither (isMark b) (hasMark s) e in rw (both .0) (unmarked-marks s (both .1))
 
 count-marks : (c : ℕ) → isMark c ≡ true → (s : List ℕ) → count c (marksOf s) ≡ count c s
 unfolding marksOf count
@@ -100,8 +101,8 @@ sweep-free rule writes [] before (suc skip) free = refl
 sweep-free rule writes (x ∷ s) before zero free =
     let turn = rule before (x ∷ s) in
     has-mark-append (turn .fresh) (sweep rule x (turn .more) s)
-    ∙ ap₂ (λ a b. a || b) (writes before x s free) (sweep-free rule writes s x (turn .more) (or-false (isMark x) (hasMark s) free .1))
-sweep-free rule writes (x ∷ s) before (suc skip) free = sweep-free rule writes s x skip (or-false (isMark x) (hasMark s) free .1)
+    ∙ ap₂ (λ a b. a || b) (writes before x s free) (sweep-free rule writes s x (turn .more) (or-neither (isMark x) (hasMark s) free .1))
+sweep-free rule writes (x ∷ s) before (suc skip) free = sweep-free rule writes s x skip (or-neither (isMark x) (hasMark s) free .1)
 
 -- ---- a rule between marks writes the marks that it takes
 module _ {rule : Rule} (between : Between rule) where

@@ -3,7 +3,7 @@
 --     stage       what stands for block k when i blocks have been put back
 --     round       what round i makes of a text in which the blocks below i stand and the others are placeholders
 use mathlib.Core.Path.{_≡_, refl, sym, ap, _∙_, subst}
-use mathlib.Core.Bool.{Bool, true, false, cond, _&&_, _||_}
+use mathlib.Core.Bool.{Bool, true, false, cond, _&&_, _||_, and-false}
 use mathlib.Core.Logic.{inl, inr}
 use mathlib.Core.List.{List, [], _∷_, _++_, append-assoc}
 use Prim.Native.Nat.{ℕ, suc, _<_}
@@ -13,9 +13,10 @@ use lib.ListN.{length, drop}
 use borrow.Author.Tests.{eqb-true, eqb-false, ltb-true, ltb-false, lt-ltb, le-ltb, le-leb, lt-leb}
 use Rattle.spec.specs.Symbols.{starts, textMark}
 use Rattle.spec.specs.Held.{placeholder}
+use Rattle.spec.specs.Laws.Symbols.{starts-unequal}
 use Rattle.held_laws.specs.Decimal.{decimal, Digits, decimal-digits}
-use Rattle.held_laws.specs.Marks.{isMark, first, rest, fill, not-text-mark, mark-small, and-false}
-use Rattle.held_laws.specs.Replacing.{Unmarked, starts-unequal, digit-not, numberMark, here-too, put, put-none, put-other, put-mark, put-met, put-over, put-past, put-taken}
+use Rattle.held_laws.specs.Marks.{isMark, first, rest, fill, not-text-mark, mark-small}
+use Rattle.held_laws.specs.Replacing.{Unmarked, digit-not, numberMark, here-too, put, put-none, put-other, put-mark, put-met, put-over, put-past, put-taken}
 use Rattle.held_laws.specs.Broken.{odd, broken, broken-behind, broken-digits, placeholder-even}
 use Rattle.held_laws.specs.Remains.{backslash}
 use Rattle.held_laws.specs.Losing.{typed, taken, lostAt}
@@ -68,10 +69,10 @@ module _ (block : ℕ → List ℕ) (good : (k : ℕ) → Good (block k)) (i : �
           ≡ eqb b d && typed ds s && leb i (first ks)
       go true e true q more =
           rw (digit-not b (h .0) (inl (mark-small b e)), good (first ks) .begins)
-          (starts-unequal d (ds ++ (textMark ∷ [])) backslash _ (digit-not backslash (h .0) (inr (omega arith))))
+          (starts-unequal d backslash (ds ++ (textMark ∷ [])) _ (digit-not backslash (h .0) (inr (omega arith))))
       go true e false q more =
           rw (digit-not b (h .0) (inl (mark-small b e)))
-          (starts-unequal d (ds ++ (textMark ∷ [])) textMark _ (digit-not textMark (h .0) (inl (omega arith))))
+          (starts-unequal d textMark (ds ++ (textMark ∷ [])) _ (digit-not textMark (h .0) (inl (omega arith))))
       go false e t q more = both-alike (eqb b d) _ (typed ds s) (leb i (first ks)) more
 
   -- at the mark of a block that stands, with a later number: P is the text behind it

@@ -11,8 +11,9 @@ use lib.ListN.{drop}
 use borrow.Author.Tests.{ltb-true}
 use Rattle.spec.specs.Symbols.{textMark}
 use Rattle.spec.specs.Held.{placeholder}
-use Rattle.held_laws.specs.Decimal.{decimal, decimal-digits, decimal-one}
-use Rattle.held_laws.specs.Marks.{isMark, hasMark, first, rest, fill, numbersBelow, occurs, or-false, not-text-mark, fill-unmarked}
+use Rattle.spec.specs.Laws.Booleans.{or-neither}
+use Rattle.held_laws.specs.Decimal.{decimal, decimal-digits, decimal-injective}
+use Rattle.held_laws.specs.Marks.{isMark, hasMark, first, rest, fill, numbersBelow, occurs, not-text-mark, fill-unmarked}
 use Rattle.held_laws.specs.Replacing.{Unmarked, here-too, same-digits}
 use Rattle.held_laws.specs.Broken.{odd, odd-append, placeholder-even}
 use Rattle.held_laws.specs.Remains.{backslash, Remains}
@@ -75,7 +76,7 @@ first-mark k (b ∷ u) js x v h e below = go (isMark b) refl (ltb (first js) k) 
       where
         look : (o : Bool) → here-too t (decimal (first js) ++ (textMark ∷ tail)) ≡ o → o ≡ false
         look true e =
-            let one = decimal-one t (first js) (same-digits (decimal t) (decimal (first js)) (decimal-digits t) (decimal-digits (first js)) tail e) in
+            let one = decimal-injective t (first js) (same-digits (decimal t) (decimal (first js)) (decimal-digits t) (decimal-digits (first js)) tail e) in
             absurd (omega arith)
         look false e = refl
 
@@ -133,7 +134,7 @@ module _ (stored rust : ℕ → List ℕ) (fair : (k : ℕ) → Fair k (stored k
       record {
         remains = a .remains ∙ lost-same;
         same = λ e.
-            (let none = or-false (nestedBelow stored n) (lostBelow n ks s) e .0 in
+            (let none = or-neither (nestedBelow stored n) (lostBelow n ks s) e .0 in
             a .same (lost-same ∙ e)
             ∙ fill-below rust stored n (λ k h. fair k .same ∙ fill-unmarked placeholder (fair k .js) (stored k) (none-below stored n none k h)) ks s below);
       }

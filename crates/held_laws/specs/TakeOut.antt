@@ -3,31 +3,24 @@
 --     Turns           the four kinds of turns of `takeOut`, as a rule on which to go by induction
 --     turns           they are what `takeOut` does
 use mathlib.Core.Path.{_≡_, refl, sym, ap, ap₂, _∙_, subst}
-use mathlib.Core.Bool.{Bool, true, false, false≢true}
+use mathlib.Core.Bool.{Bool, true, false}
 use mathlib.Core.List.{List, [], _∷_, _++_, append-assoc}
-use mathlib.Core.Option.{Option, none, some}
-use Prim.Native.Nat.{ℕ, zero, suc, _-_, _≤_}
+use mathlib.Core.Option.{Option, none, some, Option·none-ne-some}
+use Prim.Native.Nat.{ℕ, zero, suc, _≤_}
 use Prim.Native.Char.{code}
 use native.Mathlib.Nat.{not-suc-le-zero}
 use native.Mathlib.Omega.{arith}
-use lib.ListN.{length, take, drop, length-append}
-use lib.Seq.{take-append-seam, drop-append-seam}
+use lib.ListN.{length, drop, length-append}
+use lib.Seq.{drop-append-seam}
 use Rattle.spec.specs.Symbols.{until, starts}
 use Rattle.spec.specs.Closing.{Side, opens, closes, neither, side, close, findMatchingBrace}
 use Rattle.spec.specs.Held.{Taken, leaving, taking, takeOut}
-use Rattle.held_laws.specs.Replacing.{starts-split}
+use Rattle.spec.specs.Laws.Symbols.{starts-split, until-append}
 
 -- ---- what is behind a closer
 abbrev pub theText : Option (List ℕ) → List ℕ
 theText none = []
 theText (some s) = s
-
-abbrev pub isSome : Option (List ℕ) → Bool
-isSome none = false
-isSome (some s) = true
-
-none-some : {A : Type 0} {s : List ℕ} → none ≡ some s → A
-none-some e = absurd (false≢true (ap isSome e))
 
 -- r is an end of s, and not the whole
 pub record Behind (s r : List ℕ) : Type 0 where
@@ -40,7 +33,7 @@ behind-more x b = record { head = x; front = b .head ∷ b .front; split = ap (�
 
 pub close-behind : (o c : ℕ) (s : List ℕ) (d : ℕ) (r : List ℕ) → close o c d s ≡ some r → Behind s r
 unfolding close
-close-behind o c [] d r e = none-some e
+close-behind o c [] d r e = absurd (Option·none-ne-some r e)
 close-behind o c (x ∷ s) d r e = go (side o c x) d e (close-behind o c s)
   where
     go : (z : Side) (d : ℕ)
@@ -50,12 +43,6 @@ close-behind o c (x ∷ s) d r e = go (side o c x) d e (close-behind o c s)
     go closes zero e more = record { head = x; front = []; split = ap (λ l. x ∷ theText l) e }
     go closes (suc d) e more = behind-more x (more d r e)
     go neither d e more = behind-more x (more d r e)
-
-pub until-front : (u r : List ℕ) → until (u ++ r) r ≡ u
-until-front u r =
-    let l = length-append u r in
-    let e : length (u ++ r) - length r ≡ length u = omega arith in
-    ap (λ n. take n (u ++ r)) e ∙ take-append-seam u r
 
 -- ---- the turns
 module _ (name : List ℕ) (mark : ℕ) where
@@ -113,9 +100,9 @@ module _ (name : List ℕ) (mark : ℕ) where
       → takeOut name mark 0 (x ∷ (block ++ behind)) ≡ taking mark (x ∷ block) (takeOut name mark 0 behind)
   turn-holding x block behind e c =
       at-name x (block ++ behind) (some behind) e c
-      ∙ ap₂ (taking mark) (until-front (x ∷ block) behind)
+      ∙ ap₂ (taking mark) (until-append (x ∷ block) behind)
       (skipped (length (until (block ++ behind) behind)) (block ++ behind)
-      ∙ ap (λ u. takeOut name mark 0 (drop (length u) (block ++ behind))) (until-front block behind)
+      ∙ ap (λ u. takeOut name mark 0 (drop (length u) (block ++ behind))) (until-append block behind)
       ∙ ap (takeOut name mark 0) (drop-append-seam block behind))
 
   -- a closed block begins where the name does

@@ -12,7 +12,9 @@ use lib.Dec.{eqb}
 use lib.ListN.{length, drop}
 use Rattle.spec.specs.Symbols.{textMark, romanMark}
 use Rattle.spec.specs.Held.{Held, marks}
-use Rattle.held_laws.specs.Marks.{isMark, hasMark, count, order, blockAt, joined, or-false, has-mark-append}
+use Rattle.spec.specs.Laws.Booleans.{or-neither}
+use Rattle.spec.specs.Laws.Held.{unheld}
+use Rattle.held_laws.specs.Marks.{isMark, hasMark, count, order, blockAt, joined, has-mark-append}
 use Rattle.held_laws.specs.Remains.{backslash}
 use Rattle.held_laws.specs.Noted.{noted}
 
@@ -63,8 +65,8 @@ pub unmarked-count : (s : List ℕ) → hasMark s ≡ false → (count textMark 
 unfolding count
 unmarked-count [] e = (refl, refl)
 unmarked-count (b ∷ s) e =
-    let here = or-false (isMark b) (hasMark s) e in
-    let both = or-false (eqb b textMark) (eqb b romanMark) (here .0) in
+    let here = or-neither (isMark b) (hasMark s) e in
+    let both = or-neither (eqb b textMark) (eqb b romanMark) (here .0) in
     let more = unmarked-count s (here .1) in
     (rw (both .0) (more .0), rw (both .1) (more .1))
 
@@ -78,6 +80,10 @@ count-unmarked (b ∷ s) e f = go (eqb b textMark) (eqb b romanMark) (count-unma
     go true r more e f = absurd (omega arith)
     go false true more e f = absurd (omega arith)
     go false false more e f = more e f
+
+-- where no block is held, the text has no mark
+pub unheld-unmarked : (s : List ℕ) → WellMade (unheld s) → hasMark s ≡ false
+unheld-unmarked s made = count-unmarked s (let few = made .text-marks in omega arith) (made .roman-marks)
 
 -- ---- lists of blocks
 pub joined-append : (bs cs : List (List ℕ)) → joined (bs ++ cs) ≡ joined bs ++ joined cs

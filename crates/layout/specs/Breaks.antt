@@ -6,7 +6,7 @@
 use mathlib.Core.Path.{_≡_, refl, sym, ap, _∙_}
 use mathlib.Core.Bool.{Bool, true, false, cond, _&&_, _||_, and-comm, or-false, false≢true}
 use mathlib.Core.List.{List, [], _∷_, _++_, reverse, reverse-reverse, append-assoc, reverse-append, reverseAux-eq}
-use Prim.Native.Nat.{ℕ, zero, suc, pred, _+_, _-_, _≤_}
+use Prim.Native.Nat.{ℕ, zero, suc, pred, _+_, _≤_}
 use native.Mathlib.Omega.{arith}
 use lib.Dec.{eqb}
 use lib.ListN.{length, getD, take, drop, length-append}
@@ -15,6 +15,7 @@ use borrow.Author.Tests.{eqb-true}
 use Rattle.spec.specs.Symbols.{bytes, is, head, empty, starts, ends}
 use Rattle.spec.specs.Sweep.{Turn, kept, taken, replacing, sweep, replace}
 use Rattle.spec.specs.Finish.{lastBreak, lineBreaks}
+use Rattle.spec.specs.Laws.Booleans.{and-parts}
 
 -- before a newline, or at the very end
 abbrev pub breaks : ℕ → ℕ → List ℕ → Bool
@@ -70,10 +71,6 @@ line-starts before x s =
     go false true c = refl
     go false false c = refl
 
-both-true : (a b : Bool) → a && b ≡ true → (a ≡ true) × (b ≡ true)
-both-true true b e = (refl, e)
-both-true false b e = absurd (false≢true e)
-
 swap-line : (before b : ℕ) (s : List ℕ) → swap 10 s ≡ inner 10 s → swap b (32 ∷ 92 ∷ 10 ∷ s) ≡ inner before (32 ∷ 92 ∷ 10 ∷ s)
 unfolding sweep inner
 swap-line before b s e = ap (λ t. 32 ∷ 92 ∷ 92 ∷ 10 ∷ t) e
@@ -87,8 +84,8 @@ swap-break :
 swap-break n before b x [] h e shorter = absurd (false≢true e)
 swap-break n before b x (y ∷ []) h e shorter = absurd (false≢true e)
 swap-break n before b x (y ∷ z ∷ s) h e shorter =
-    let p = both-true (eqb z 10 && eqb y 92) (eqb x 32) e in
-    let q = both-true (eqb z 10) (eqb y 92) (p .0) in
+    let p = and-parts (eqb z 10 && eqb y 92) (eqb x 32) e in
+    let q = and-parts (eqb z 10) (eqb y 92) (p .0) in
     let l : _≡_ {A = List ℕ} (x ∷ y ∷ z ∷ s) (32 ∷ 92 ∷ 10 ∷ s) =
     ap (λ k. k ∷ y ∷ z ∷ s) (eqb-true x 32 (p .1)) ∙ ap (λ k. 32 ∷ k ∷ z ∷ s) (eqb-true y 92 (q .1)) ∙ ap (λ k. 32 ∷ 92 ∷ k ∷ s) (eqb-true z 10 (q .0))
     in

@@ -13,6 +13,7 @@ use borrow.Author.Tests.{eqb-true}
 use Rattle.spec.specs.Symbols.{is, blank, head, empty, dropWhile, dropWhileEnd, trim}
 use Rattle.symbols.specs.Places.{before, Ahead, Behind}
 use Rattle.symbols.specs.Runs.{behind-end}
+use Rattle.spec.specs.Laws.Symbols.{dropWhile-short}
 use Rattle.symbols.specs.declared.Span.{Span}
 use Rattle.layout.specs.Breaks.{breaks, piece, broken, lined}
 
@@ -61,14 +62,6 @@ module _ (f : ℕ → Bool) where
   while-past : (x : ℕ) (s : List ℕ) → f x ≡ true → dropWhile f (x ∷ s) ≡ dropWhile f s
   while-past x s e = rw (e, dropWhile)
 
-  while-short : (s : List ℕ) → length (dropWhile f s) ≤ length s
-  while-short [] = omega arith
-  while-short (x ∷ s) = go (f x) (while-short s)
-    where
-      go : (t : Bool) → length (dropWhile f s) ≤ length s → length {A = ℕ} (elim t [ true ↦ dropWhile f s | false ↦ x ∷ s ]) ≤ suc (length s)
-      go true h = omega arith
-      go false h = omega arith
-
 -- ---- the places that trimming leaves
 pub record Trimmed (s : List ℕ) (r : Span) : Type 0 where
   pub order : r .start ≤ r .end
@@ -109,7 +102,7 @@ broken-lead before (x ∷ s) a h e = go (blank x) refl a h e (broken-lead x s)
         → dropWhile blank (broken before (x ∷ s)) ≡ broken (getD (before ∷ x ∷ s) a 0) (drop a (x ∷ s))
     go true b zero h e rest =
         let d : dropWhile blank s ≡ x ∷ s = sym (while-past blank x s b) ∙ e in
-        let l = ap length d in let w = while-short blank s in absurd (omega arith)
+        let l = ap length d in let w = dropWhile-short blank s in absurd (omega arith)
     go true b (suc a) h e rest =
         ap (λ t. dropWhile blank (piece x t ++ broken x s)) (blank-single before x s b)
         ∙ while-past blank x (broken x s) b

@@ -2,19 +2,18 @@
 --     thinned    what is written from place i on, with the last thin space before `start`
 -- Assumes nothing.
 use mathlib.Core.Path.{_≡_, refl, sym, ap, ap₂, _∙_}
-use mathlib.Core.Bool.{Bool, true, false, not, cond, _&&_, _||_, and-comm}
-use mathlib.Core.List.{List, [], _∷_, _++_, reverse, reverse-reverse, reverse-append}
-use mathlib.Core.Option.{Option, none, some}
+use mathlib.Core.Bool.{Bool, true, false, not, cond, _&&_, _||_}
+use mathlib.Core.List.{List, [], _∷_, _++_, reverse, reverse-reverse}
 use Prim.Native.Nat.{ℕ, zero, suc, _+_, _-_, _≤_, _<_}
 use native.Mathlib.Nat.{not-suc-le-zero}
 use native.Mathlib.Omega.{arith}
-use lib.Dec.{eqb, ltb}
-use lib.ListN.{length, getD, take, drop, length-take, length-drop, length-reverse, drop-of-length-le, take-append-drop}
-use lib.Seq.{getD-drop, take-append-seam}
-use borrow.Author.Tests.{eqb-true, eqb-false, eq-eqb, ne-eqb, lt-ltb}
-use Rattle.spec.specs.Symbols.{bytes, is, letter, head, same, empty, until, dropWhile, starts, find}
+use lib.Dec.{ltb}
+use lib.ListN.{length, getD, take, drop, length-take, length-drop, length-reverse, drop-of-length-le}
+use lib.Seq.{getD-drop}
+use borrow.Author.Tests.{ne-eqb, lt-ltb}
+use Rattle.spec.specs.Symbols.{bytes, is, letter, head, empty, until, dropWhile, starts, find}
 use Rattle.spec.specs.Finish.{atomCommands, oneOf, spacingCommand, spacing, gapFrom, gap, thinSpaces, dropThinSpaceAfterCommands}
-use Rattle.spec.specs.Laws.Symbols.{drop-step, starts-long}
+use Rattle.spec.specs.Laws.Symbols.{drop-step, starts-long, reverse-drop}
 use Rattle.symbols.specs.Parts.{part, length-part, rest-part, getD-before, sub-part}
 use Rattle.symbols.specs.Places.{before, before-all, before-step, length-before, Ahead, Behind, before-next, head-before}
 use Rattle.search.specs.Search.{until-drop}
@@ -23,26 +22,6 @@ use Rattle.text.specs.Sweep.{rest}
 use Rattle.text.specs.Filling.{Filling, filling-more, filling-symbol}
 use Rattle.search.specs.declared.Found.{Found}
 use Rattle.search.specs.declared.Found.the-variants.{Nothing}
-
--- ---- equal texts
-eqb-comm : (x y : ℕ) → eqb x y ≡ eqb y x
-eqb-comm x y = go (eqb y x) refl
-  where
-    go : (t : Bool) → eqb y x ≡ t → eqb x y ≡ t
-    go true e = eq-eqb x y (sym (eqb-true y x e))
-    go false e = ne-eqb x y (λ q. eqb-false y x e (sym q))
-
-pub same-starts : (a b : List ℕ) → length a ≡ length b → starts a b ≡ same a b
-same-starts [] [] e = refl
-same-starts [] (y ∷ b) e = absurd (omega arith)
-same-starts (x ∷ a) [] e = absurd (omega arith)
-same-starts (x ∷ a) (y ∷ b) e = ap₂ (λ p q. p && q) (same-starts a b (omega arith)) (eqb-comm y x) ∙ and-comm (same a b) (eqb x y)
-
-pub same-long : (a b : List ℕ) → (length a ≡ length b → ⊥) → same a b ≡ false
-same-long [] [] e = absurd (e refl)
-same-long [] (y ∷ b) e = refl
-same-long (x ∷ a) [] e = refl
-same-long (x ∷ a) (y ∷ b) e = ap (λ q. eqb x y && q) (same-long a b (λ h. e (ap suc h))) ∙ and-comm (eqb x y) false
 
 -- ---- a command with its own spacing
 abbrev pub argument : List ℕ → Bool
@@ -74,16 +53,6 @@ spacing-is {s} {end} l =
 abbrev pub gapIf : Bool → List ℕ
 gapIf keeps = cond keeps (bytes "\\;") []
 
--- the symbols behind a place, from the end of the text
-take-reverse : (s : List ℕ) (k : ℕ) → k ≤ length s → take (length s - k) (reverse s) ≡ reverse (drop k s)
-take-reverse s k h =
-    let l = length-reverse (drop k s) in let d = length-drop k s in
-    let n : length s - k ≡ length (reverse (drop k s)) = omega arith in
-    ap (λ t. take (length s - k) (reverse t)) (sym (take-append-drop k s))
-    ∙ ap (take (length s - k)) (reverse-append (take k s) (drop k s))
-    ∙ ap (λ m. take m (reverse (drop k s) ++ reverse (take k s))) n
-    ∙ take-append-seam (reverse (drop k s)) (reverse (take k s))
-
 -- the place behind the last backslash, or the start
 module _ {s : List ℕ} {r : ℕ} (last : Behind s (length s) r (dropWhile (λ x. not (is "\\" x)) (before s (length s)))) where
   back : dropWhile (λ x. not (is "\\" x)) (reverse s) ≡ before s r
@@ -96,7 +65,7 @@ module _ {s : List ℕ} {r : ℕ} (last : Behind s (length s) r (dropWhile (λ x
       let lr = length-reverse s in let lb = length-before s r w in let lh = ap length here in
       let many : length (reverse s) - length (getD s (r - 1) 0 ∷ before s (r - 1)) ≡ length s - r = omega arith in
       ap (gapFrom (reverse s)) (back ∙ here)
-      ∙ ap (λ t. cond (spacing (reverse t)) [] (bytes "\\;")) (ap (λ m. take m (reverse s)) many ∙ take-reverse s r w)
+      ∙ ap (λ t. cond (spacing (reverse t)) [] (bytes "\\;")) (ap (λ m. take m (reverse s)) many ∙ sym (reverse-drop r s))
       ∙ ap (λ t. cond (spacing t) [] (bytes "\\;")) (reverse-reverse (drop r s))
       ∙ turned (spacing (drop r s))
     where
@@ -156,21 +125,6 @@ module _ (s : List ℕ) (start i : ℕ) (order : start ≤ i) (within : i < leng
       ∙ thin-symbol p (getD s i 0) (drop (i + 1) s) (ap (starts (bytes "\\;")) (sym (drop-step s i within)) ∙ e)
       ∙ ap (λ q. getD s i 0 ∷ thinSpaces 0 q (drop (i + 1) s)) (sym one)
 
--- without a thin space nothing is dropped
-thin-none : (p s : List ℕ) → find (bytes "\\;") s ≡ none → thinSpaces 0 p s ≡ s
-unfolding thinSpaces find
-thin-none p [] e = refl
-thin-none p (x ∷ s) e = go (starts (bytes "\\;") (x ∷ s)) refl (thin-none (x ∷ p) s) e
-  where
-    go : (t : Bool) → starts (bytes "\\;") (x ∷ s) ≡ t → (find (bytes "\\;") s ≡ none → thinSpaces 0 (x ∷ p) s ≡ s)
-        → _≡_ {A = Option (List ℕ)} (elim t [ true ↦ some (x ∷ s) | false ↦ find (bytes "\\;") s ]) none
-        → thinSpaces 0 p (x ∷ s) ≡ x ∷ s
-    go true b rest e = let z : _≡_ {A = ℕ} 0 1 = cc in absurd (omega arith)
-    go false b rest e = thin-symbol p x s b ∙ ap (λ l. x ∷ l) (rest e)
-
-pub thin-absent : (s : List ℕ) → find (bytes "\\;") s ≡ none → dropThinSpaceAfterCommands s ≡ s
-unfolding dropThinSpaceAfterCommands
-thin-absent s e = thin-none [] s e
 
 -- ---- a turn of the loop
 module _

@@ -6,7 +6,7 @@ use text::Due;
 use text::Progress;
 ghost use mathlib.Core.Path.{_≡_};
 ghost use mathlib.Core.List.{reverse};
-ghost use Rattle.spec.specs.Symbols.{bytes, same, starts};
+ghost use Rattle.spec.specs.Symbols.{bytes, starts};
 ghost use Rattle.spec.specs.Result.{stage};
 ghost use Rattle.spec.specs.Finish.{atomCommands, oneOf, spacing, gap, dropThinSpaceAfterCommands};
 ghost use Rattle.symbols.specs.Parts.{part};
@@ -14,23 +14,14 @@ ghost use Rattle.text.specs.Writer.{Room, Appended, Regions};
 ghost use Rattle.text.specs.Stage.{Ready, Staged};
 ghost use Rattle.layout.specs.Thin.{argument, gapIf};
 
-fn is_same(a: &[u8], b: &[u8]) -> bool
-    ensures { λ r. ⌜ r ≡ same (now (a .entry)) (now (b .entry)) ⌝ }
-{
-    if a.len() != b.len() {
-        return false;
-    }
-    search::starts_with(b, a)
-}
-
 // A command that sets an atom: a word behind it still wants a space.
 fn is_atom_command(word: &[u8]) -> bool
     ensures { λ r. ⌜ r ≡ oneOf atomCommands (now (word .entry)) ⌝ }
 {
-    is_same(b"text", word)
-        | (is_same(b"mathrm", word)
-            | (is_same(b"operatorname", word)
-                | (is_same(b"mathbf", word) | is_same(b"mathit", word))))
+    search::is_same(b"text", word)
+        | (search::is_same(b"mathrm", word)
+            | (search::is_same(b"operatorname", word)
+                | (search::is_same(b"mathbf", word) | search::is_same(b"mathit", word))))
 }
 
 // What stands behind a control word: nothing, or an argument in braces.

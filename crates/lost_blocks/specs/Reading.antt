@@ -11,13 +11,13 @@ use native.Mathlib.Numerals.{add-one}
 use native.Mathlib.Omega.{arith}
 use lib.Dec.{leb, ltb}
 use lib.ListN.{length, getD, drop, drop-of-length-le}
-use borrow.Author.Tests.{eq-eqb, ne-eqb, le-leb, lt-leb, leb-true, leb-false, le-ltb, lt-ltb}
+use borrow.Author.Tests.{eq-eqb, ne-eqb, le-leb, lt-leb, leb-false, le-ltb, lt-ltb}
 use Rattle.spec.specs.Symbols.{is, digit, textMark, romanMark}
 use Rattle.spec.specs.Laws.Symbols.{drop-step}
 use Rattle.symbols.specs.Parts.{part, rest-of}
 use Rattle.search.specs.declared.Found.{Found}
 use Rattle.search.specs.declared.Found.the-variants.{At, Nothing}
-use Rattle.held_laws.specs.Marks.{isMark, hasMark, first, order, and-true}
+use Rattle.held_laws.specs.Marks.{isMark, hasMark, first, order}
 use Rattle.held_laws.specs.Numeral.{horner, numeral}
 use Rattle.held_laws.specs.Noted.{takes, noted}
 
@@ -195,9 +195,6 @@ module _ (s : List ℕ) (i : ℕ) (done : length s ≤ i) where
   pub notes-end : {texts a r : ℕ} → Notes s texts a r i → noted (order 0 texts s) s ≡ false
   unfolding noted
   notes-end {texts} {a} {r} n = n .so-far ∙ ap (λ s. noted (order a r s) s) (drop-of-length-le s done)
-
-pub digit-range : (b : ℕ) → digit b ≡ true → (48 ≤ b) × (b ≤ 57)
-digit-range b e = let both = and-true (leb 48 b) (leb b 57) e in (leb-true 48 b (both .0), leb-true b 57 (both .1))
 
 -- ---- by the first two symbols
 module _ (s : List ℕ) where

@@ -50,7 +50,7 @@ fn digits(s: &[u8]) -> Found
         if MOST_NUMBER < v {
             return Found::Nothing;
         }
-        v = 10 * v + (held::wide(b) - 48);
+        v = 10 * v + (symbols::wide(b) - 48);
     }
     Found::Nothing
 }

@@ -11,21 +11,22 @@ use lib.Dec.{eqb}
 use lib.ListN.{length, getD, take, drop, length-take, length-drop, length-append}
 use lib.Seq.{drop-drop, length-take-le}
 use borrow.Author.Tests.{ne-eqb}
-use Rattle.spec.specs.Symbols.{bytes, is, head, past, starts, find}
+use Rattle.spec.specs.Symbols.{bytes, is, head, past, find}
 use Rattle.spec.specs.Sweep.{sweep, reached}
 use Rattle.spec.specs.Calls.{callAt, rewritten}
 use Rattle.spec.specs.Finish.{Delimiters, delimiters, latexLr, lr, bareDelimiter, convertLr}
 use Rattle.spec.specs.Result.{passed, refused, mostSymbols, grown, stage}
 use Rattle.spec.specs.Laws.Symbols.{head-drop, past-drop}
-use Rattle.spec.specs.Laws.Sweep.{Waits, sweep-absent}
+use Rattle.spec.specs.Laws.Sweep.{Waits, sweep-absent, reached-absent}
+use Rattle.spec.specs.Laws.Absent.{no-bare, calling-waits}
 use Rattle.symbols.specs.Parts.{part, length-part, sub-part, whole-part}
 use Rattle.text.specs.Stage.{grown-short}
 use Rattle.text.specs.Writer.{Appended}
 use Rattle.text.specs.Sweep.{Sweeping, rest, symbols-read}
 use Rattle.search.specs.declared.Found.{Found}
 use Rattle.search.specs.declared.Found.the-variants.{At, Nothing}
-use Rattle.delimiters.specs.Delimiters.{Called, innerAt, called-not, calling-waits, call-read, call-fits}
-use Rattle.lr.specs.Reached.{comes, comes-turn, reached-absent}
+use Rattle.delimiters.specs.Delimiters.{Called, innerAt, call-read, call-fits}
+use Rattle.lr.specs.Reached.{comes, comes-turn}
 use Rattle.lr.specs.declared.Ended.{Ended}
 use Rattle.lr.specs.declared.Ended.the-variants.{Length, Bare}
 
@@ -109,9 +110,6 @@ sized-few inner x k bound = go (is "(" x) refl (is "|" x) refl (is "[" x) refl (
 abbrev bareIn : Option (List ℕ) → Bool
 bareIn o = elim o [ some inner ↦ eqb (length inner) 1 && elim (delimiters (head inner)) [ some d ↦ true | none ↦ false ] | none ↦ false ]
 
-unlike : (s : List ℕ) → starts lrName s ≡ false → bareDelimiter s ≡ false
-unlike s e = ap bareIn (sym (called-not lrName s e .inner))
-
 pub lr-waits : Waits lrName lr
 lr-waits = calling-waits lrName latexLr
 
@@ -140,7 +138,7 @@ convert-lr-sized s e = rw (e, convertLr)
 -- a text in which the name does not occur
 pub lr-absent : (s : List ℕ) → length s ≤ mostSymbols → find lrName s ≡ none → convertLr s ≡ passed s
 lr-absent s short absent =
-    sym (convert-lr-sized s (reached-absent bareDelimiter lr-waits unlike s 0 absent))
+    sym (convert-lr-sized s (reached-absent bareDelimiter lr-waits no-bare s 0 absent))
     ∙ ap (λ t. grown t t) (sweep-absent lr-waits s 0 absent)
     ∙ grown-short s short
 

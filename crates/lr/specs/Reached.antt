@@ -1,18 +1,15 @@
 -- Laws of `reached`: whether a sweep comes to a place where a test holds.
 --     comes     the same from place i on
 -- Assumes nothing.
-use mathlib.Core.Path.{_≡_, refl, ap, ap₂, _∙_}
-use mathlib.Core.Bool.{Bool, true, false, _||_}
+use mathlib.Core.Path.{_≡_, refl, ap, _∙_}
+use mathlib.Core.Bool.{Bool, false, _||_}
 use mathlib.Core.List.{List, [], _∷_}
-use mathlib.Core.Option.{Option, none, some}
 use Prim.Native.Nat.{ℕ, zero, suc, _+_, _<_, _≤_}
 use native.Mathlib.Nat.{add-suc, not-suc-le-zero}
 use native.Mathlib.Omega.{arith}
 use lib.ListN.{length, getD, drop, length-drop, drop-of-length-le}
 use lib.Seq.{drop-drop, getD-drop}
-use Rattle.spec.specs.Symbols.{starts, find}
 use Rattle.spec.specs.Sweep.{Turn, Rule, reached}
-use Rattle.spec.specs.Laws.Sweep.{Waits}
 
 module _ (test : List ℕ → Bool) where
   unfoldable pub comes : Rule → List ℕ → ℕ → Bool
@@ -49,17 +46,3 @@ module _ (test : List ℕ → Bool) where
   pub comes-end : (rule : Rule) (s : List ℕ) (i : ℕ) → length s ≤ i → comes rule s i ≡ false
   unfolding comes reached
   comes-end rule s i h = rw (drop-of-length-le s h)
-
-  -- a test that does not hold where the pattern does not stand
-  pub reached-absent :
-      {pattern : List ℕ} {rule : Rule} → Waits pattern rule → ((s : List ℕ) → starts pattern s ≡ false → test s ≡ false)
-      → (s : List ℕ) (before : ℕ) → find pattern s ≡ none → reached test rule before 0 s ≡ false
-  unfolding reached find
-  reached-absent waits fails [] before e = refl
-  reached-absent {pattern} {rule} waits fails (x ∷ s) before e = go (starts pattern (x ∷ s)) refl (reached-absent waits fails s x) e
-    where
-      go : (t : Bool) → starts pattern (x ∷ s) ≡ t → (find pattern s ≡ none → reached test rule x 0 s ≡ false)
-          → _≡_ {A = Option (List ℕ)} (elim t [ true ↦ some (x ∷ s) | false ↦ find pattern s ]) none
-          → test (x ∷ s) || reached test rule x (rule before (x ∷ s) .more) s ≡ false
-      go true b rest e = let z : _≡_ {A = ℕ} 0 1 = cc in absurd (omega arith)
-      go false b rest e = ap₂ (λ (a : Bool) (t : Turn). a || reached test rule x (t .more) s) (fails (x ∷ s) b) (waits .copies before (x ∷ s) b) ∙ rest e

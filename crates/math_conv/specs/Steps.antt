@@ -18,7 +18,7 @@ use Rattle.spec.specs.Symbols.{foreign, any, textMark, romanMark}
 use Rattle.spec.specs.Result.{Result, passed, refused, _then_}
 use Rattle.spec.specs.Table.{Definition, definitions, byLength}
 use Rattle.spec.specs.Laws.Table.{by-length-order}
-use Rattle.spec.specs.Laws.Booleans.{or-neither-left, or-neither-right}
+use Rattle.spec.specs.Laws.Booleans.{or-neither}
 use Rattle.spec.specs.Pipeline.{mostFormula, leastWork, definitionsOr, readable, admitted, typstToLatex, fitting, converted, answerOf, outputAfter, workAfter, Call}
 use Rattle.symbols.specs.Parts.{part, length-part}
 use Rattle.text.specs.Stage.{shown, Ready, Answered, placed-fits}
@@ -85,10 +85,10 @@ module _ {formula table w : List ℕ} (wide : leastWork ≤ length w) where
 -- a mark is foreign
 unmarked : (s : List ℕ) → any foreign s ≡ false → hasMark s ≡ false
 unmarked [] e = refl
-unmarked (x ∷ s) e = rw (own (eqb x textMark) refl (eqb x romanMark) refl, any) (unmarked s (or-neither-right (foreign x) (any foreign s) e))
+unmarked (x ∷ s) e = rw (own (eqb x textMark) refl (eqb x romanMark) refl, any) (unmarked s (or-neither (foreign x) (any foreign s) e .1))
   where
     native-x : foreign x ≡ false
-    native-x = or-neither-left (foreign x) (any foreign s) e
+    native-x = or-neither (foreign x) (any foreign s) e .0
 
     own : (p : Bool) → eqb x textMark ≡ p → (q : Bool) → eqb x romanMark ≡ q → isMark x ≡ false
     own true p q u = absurd (true≢false (sym (ap foreign (eqb-true x textMark p)) ∙ native-x))

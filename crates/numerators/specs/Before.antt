@@ -3,23 +3,16 @@ use mathlib.Core.Path.{_≡_, refl, ap, _∙_}
 use mathlib.Core.Bool.{Bool, true, false}
 use mathlib.Core.List.{List, [], _∷_}
 use mathlib.Core.Option.{none, some}
-use Prim.Native.Nat.{ℕ, zero, suc}
+use Prim.Native.Nat.{ℕ, suc}
 use Rattle.spec.specs.Symbols.{is, head}
-use Rattle.spec.specs.Closing.{Side, opens, closes, neither, sideOf, side, close, orEnd}
-use Rattle.spec.specs.Fractions.{depthAfter, inOperand, nameSymbol, nameBefore, wordBefore, withName, findFractionPartBefore}
+use Rattle.spec.specs.Closing.{sideOf, depthAfter, close, orEnd}
+use Rattle.spec.specs.Fractions.{inOperand, nameSymbol, nameBefore, wordBefore, withName, findFractionPartBefore}
+use Rattle.operands.specs.Groups.{group-closing}
 
 -- a group in a name is a closing search
 group-name : (d : ℕ) (s : List ℕ) → nameBefore (suc d) s ≡ nameBefore 0 (orEnd (close 125 123 d s))
-unfolding nameBefore close
-group-name d [] = refl
-group-name d (x ∷ s) = go d (side 125 123 x) (λ d. group-name d s)
-  where
-    go : (d : ℕ) (k : Side) → ((d : ℕ) → nameBefore (suc d) s ≡ nameBefore 0 (orEnd (close 125 123 d s)))
-        → nameBefore (depthAfter k (suc d)) s ≡ nameBefore 0 (orEnd (elim k [ opens ↦ close 125 123 (suc d) s | closes ↦ elim d [ zero ↦ some s | suc e ↦ close 125 123 e s ] | neither ↦ close 125 123 d s ]))
-    go d opens h = h (suc d)
-    go zero closes h = refl
-    go (suc d) closes h = h d
-    go d neither h = h d
+unfolding nameBefore
+group-name = group-closing 125 123 nameBefore (λ d. refl) (λ d x s. refl)
 
 module _ {x : ℕ} {p q : List ℕ} (here : p ≡ x ∷ q) where
   pub name-stop : nameSymbol x ≡ false → nameBefore 0 p ≡ p

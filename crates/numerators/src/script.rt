@@ -1,6 +1,5 @@
 // is_inside_subscript_context: a slash within the parentheses of a script is no fraction.
 use closing::Tally;
-use operands::is_script_sign;
 ghost use mathlib.Core.Path.{_≡_};
 ghost use Rattle.spec.specs.Fractions.{scriptOpener, isInsideSubscriptContext};
 ghost use Rattle.symbols.specs.Places.{before};
@@ -15,7 +14,8 @@ fn opens_script(s: &[u8], i: usize) -> bool
         return false;
     }
     let near = s[i - 1];
-    is_script_sign(near) | ((near == b'(') & is_script_sign(search::before(s, i - 1)))
+    symbols::is_script_sign(near)
+        | ((near == b'(') & symbols::is_script_sign(search::before(s, i - 1)))
 }
 
 // Whether `pos` is within the parentheses of a script. An unmatched parenthesis that opens none begins a fresh tally.

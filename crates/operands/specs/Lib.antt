@@ -1,3 +1,4 @@
 -- What the contracts of `operands` cite, and the laws that the searches on both sides of a slash share.
 pub mod Places
 pub mod Strip
+pub mod Groups

@@ -3,7 +3,7 @@ use mathlib.Core.Path.{_≡_, refl, sym, ap, _∙_}
 use mathlib.Core.Bool.{Bool, true, false, _&&_, and-false}
 use mathlib.Core.List.{List, [], _∷_, reverse, reverse-reverse}
 use mathlib.Core.Logic.{_⊎_, inl, inr, ⊎-elim}
-use Prim.Native.Nat.{ℕ, suc, _+_, _-_, _≤_, _<_}
+use Prim.Native.Nat.{ℕ, _+_, _-_, _≤_, _<_}
 use native.Mathlib.Omega.{arith}
 use native.Mathlib.Decide.{decLe}
 use borrow.Author.Tests.{eqb-true}
@@ -11,7 +11,7 @@ use lib.ListN.{length, getD, take, drop, length-take, length-drop, length-revers
 use Rattle.spec.specs.Symbols.{is, head, past, blank, dropWhile, trim}
 use Rattle.spec.specs.Closing.{level}
 use Rattle.spec.specs.Fractions.{innerOr, stripTrimmed, stripOuterParens}
-use Rattle.spec.specs.Laws.Symbols.{head-drop, past-drop}
+use Rattle.spec.specs.Laws.Symbols.{head-drop, past-drop, dropWhile-short}
 use Rattle.symbols.specs.Parts.{part, rest-of, length-part, sub-part}
 use Rattle.symbols.specs.Trim.{Narrowed, spanned}
 use Rattle.symbols.specs.declared.Span.{Span}
@@ -134,19 +134,11 @@ module _ {s : List ℕ} {r : Span} (trimmed : Narrowed s (whole s) r (trim (part
       }
 
 -- ---- an operand is no longer than its text
-dropWhile-shorter : (f : ℕ → Bool) (s : List ℕ) → length (dropWhile f s) ≤ length s
-dropWhile-shorter f [] = omega arith
-dropWhile-shorter f (x ∷ s) = go (f x) (dropWhile-shorter f s)
-  where
-    go : (b : Bool) → length (dropWhile f s) ≤ length s → length {A = ℕ} (elim b [ true ↦ dropWhile f s | false ↦ x ∷ s ]) ≤ suc (length s)
-    go true l = omega arith
-    go false l = omega arith
-
 pub strip-length : (s : List ℕ) → length (stripOuterParens s) ≤ length s
 unfolding stripOuterParens
 strip-length s =
     let t = dropWhile blank s in
-    let a = dropWhile-shorter blank s in let b = dropWhile-shorter blank (reverse t) in
+    let a = dropWhile-short blank s in let b = dropWhile-short blank (reverse t) in
     let d = length-reverse t in let e = length-reverse (dropWhile blank (reverse t)) in
     let f = strip-shorter (trim s) in
     omega arith

@@ -1,7 +1,7 @@
 // Classes of symbols that operands are made of. Each is one expression with no branch.
 ghost use mathlib.Core.Path.{_≡_};
 ghost use mathlib.Core.Bool.{_||_};
-ghost use Rattle.spec.specs.Symbols.{is, alnum, scriptSign};
+ghost use Rattle.spec.specs.Symbols.{is, alnum};
 ghost use Rattle.spec.specs.Fractions.{operandSymbol, inOperand, nameSymbol};
 
 // What an operand without brackets is made of.
@@ -30,10 +30,4 @@ pub fn is_exponent_symbol(b: u8) -> bool
     ensures { λ r. ⌜ r ≡ alnum b || is "-" b ⌝ }
 {
     symbols::is_alnum(b) | (b == b'-')
-}
-
-pub fn is_script_sign(b: u8) -> bool
-    ensures { λ r. ⌜ r ≡ scriptSign b ⌝ }
-{
-    (b == b'_') | (b == b'^')
 }

@@ -9,7 +9,6 @@ mod strip;
 pub use classes::is_exponent_symbol;
 pub use classes::is_in_operand;
 pub use classes::is_name_symbol;
-pub use classes::is_script_sign;
 pub use groups::before_group;
 pub use groups::closed_after;
 pub use groups::closed_before;

@@ -17,9 +17,10 @@ use borrow.Author.Tests.{ne-eqb, eqb-true, eqb-false, le-leb}
 use Rattle.spec.specs.Symbols.{digit, head, starts, textMark, romanMark}
 use Rattle.spec.specs.Sweep.{Turn, Rule, kept, taken, sweep}
 use Rattle.spec.specs.Held.{placeholder}
+use Rattle.spec.specs.Laws.Booleans.{or-neither}
+use Rattle.spec.specs.Laws.Symbols.{starts-split, starts-unequal}
 use Rattle.held_laws.specs.Decimal.{decimal, Digits, decimal-digits}
-use Rattle.held_laws.specs.Marks.{isMark, hasMark, first, rest, fill, or-false}
-use Rattle.held_laws.specs.Replacing.{starts-split, starts-unequal}
+use Rattle.held_laws.specs.Marks.{isMark, hasMark, first, rest, fill}
 use Rattle.held_laws.specs.Rewriting.{Between}
 use Rattle.placeholders.specs.Finding.{Lacks}
 
@@ -71,7 +72,7 @@ fill-starts (q ∷ w) [] ks free = refl
 fill-starts (q ∷ w) (b ∷ s) ks free = go (isMark b) refl (fill-starts w s ks (both .1))
   where
     both : (isMark q ≡ false) × (hasMark w ≡ false)
-    both = or-false (isMark q) (hasMark w) free
+    both = or-neither (isMark q) (hasMark w) free
 
     -- the name's symbol is no mark
     other : (c : ℕ) → isMark c ≡ true → eqb c q ≡ false
@@ -79,18 +80,18 @@ fill-starts (q ∷ w) (b ∷ s) ks free = go (isMark b) refl (fill-starts w s ks
 
     go : (m : Bool) → isMark b ≡ m → starts w (fill placeholder ks s) ≡ starts w s
         → starts (q ∷ w) (cond m (placeholder (first ks) ++ fill placeholder (rest ks) s) (b ∷ fill placeholder ks s)) ≡ starts w s && eqb b q
-    go true e more = starts-unequal q w textMark _ (other textMark refl) ∙ sym (starts-unequal q w b s (other b e))
+    go true e more = starts-unequal q textMark w _ (other textMark refl) ∙ sym (starts-unequal q b w s (other b e))
     go false e more = ap (λ t. t && eqb b q) more
 
 fill-over : (w s ks : List ℕ) → hasMark w ≡ false → fill placeholder ks (w ++ s) ≡ w ++ fill placeholder ks s
 unfolding fill
 fill-over [] s ks free = refl
-fill-over (b ∷ w) s ks free = let both = or-false (isMark b) (hasMark w) free in rw (both .0) (ap (λ l. b ∷ l) (fill-over w s ks (both .1)))
+fill-over (b ∷ w) s ks free = let both = or-neither (isMark b) (hasMark w) free in rw (both .0) (ap (λ l. b ∷ l) (fill-over w s ks (both .1)))
 
 -- a symbol that is neither mark nor digit is in no placeholder
 lacks-digits : (c : ℕ) → digit c ≡ false → isMark c ≡ false → (ds : List ℕ) → Digits ds → Lacks c (ds ++ (textMark ∷ []))
 unfolding Lacks Digits
-lacks-digits c d m [] h = (or-false (eqb c textMark) (eqb c romanMark) m .0, tt)
+lacks-digits c d m [] h = (or-neither (eqb c textMark) (eqb c romanMark) m .0, tt)
 lacks-digits c d m (x ∷ ds) h = (
   ne-eqb c x (λ e. false≢true (sym d ∙ ap digit e ∙ ap₂ (λ a b. a && b) (le-leb 48 x (h .0 .low)) (le-leb x 57 (h .0 .high)))),
   lacks-digits c d m ds (h .1),
@@ -98,7 +99,7 @@ lacks-digits c d m (x ∷ ds) h = (
 
 lacks-placeholder : (c : ℕ) → digit c ≡ false → isMark c ≡ false → (k : ℕ) → Lacks c (placeholder k)
 unfolding Lacks placeholder
-lacks-placeholder c d m k = (or-false (eqb c textMark) (eqb c romanMark) m .0, lacks-digits c d m (decimal k) (decimal-digits k))
+lacks-placeholder c d m k = (or-neither (eqb c textMark) (eqb c romanMark) m .0, lacks-digits c d m (decimal k) (decimal-digits k))
 
 last-placeholder : (b k : ℕ) → lastOf b (placeholder k) ≡ textMark
 unfolding placeholder
@@ -116,7 +117,7 @@ module _ {rule : Rule} (between : Between rule) where
   more = between .a-name .more
 
   start-free : isMark start ≡ false
-  start-free = or-false (isMark start) (hasMark more) (sym (ap hasMark (between .a-name .split)) ∙ between .a-name .free) .0
+  start-free = or-neither (isMark start) (hasMark more) (sym (ap hasMark (between .a-name .split)) ∙ between .a-name .free) .0
 
   -- the turn where the name stands or doesn't, and is allowed or not
   turn-is : (b : ℕ) (s : List ℕ) (t a : Bool) → starts name s ≡ t → between .allowed b (head (drop (length name) s)) ≡ a
@@ -131,7 +132,7 @@ module _ {rule : Rule} (between : Between rule) where
   unfolding Lacks
   keeps-over [] z b h = refl
   keeps-over (x ∷ u) z b h =
-      keeps b x (u ++ z) (ap (λ w. starts w (x ∷ (u ++ z))) (between .a-name .split) ∙ starts-unequal start more x (u ++ z) (ne-eqb x start (λ e. eqb-false start x (h .0) (sym e))))
+      keeps b x (u ++ z) (ap (λ w. starts w (x ∷ (u ++ z))) (between .a-name .split) ∙ starts-unequal start x more (u ++ z) (ne-eqb x start (λ e. eqb-false start x (h .0) (sym e))))
       ∙ ap (λ l. x ∷ l) (keeps-over u z x (h .1))
 
   keeps-placeholder : (k : ℕ) (z : List ℕ) (b : ℕ) → sweep rule b 0 (placeholder k ++ z) ≡ placeholder k ++ sweep rule textMark 0 z
@@ -184,7 +185,7 @@ module _ {rule : Rule} (between : Between rule) where
   at-mark n claim x s h m b c ks =
       let k = first ks in
       ap (fill placeholder ks)
-      (keeps b x s (ap (λ w. starts w (x ∷ s)) (between .a-name .split) ∙ starts-unequal start more x s (ne-eqb x start (λ e. false≢true (sym start-free ∙ ap isMark (sym e) ∙ m)))))
+      (keeps b x s (ap (λ w. starts w (x ∷ s)) (between .a-name .split) ∙ starts-unequal start x more s (ne-eqb x start (λ e. false≢true (sym start-free ∙ ap isMark (sym e) ∙ m)))))
       ∙ ap (λ t. cond t (placeholder k ++ fill placeholder (rest ks) (sweep rule x 0 s)) (x ∷ fill placeholder ks (sweep rule x 0 s))) m
       ∙ ap (λ l. placeholder k ++ l) (claim s h x textMark (rest ks) (inr (m, refl)))
       ∙ sym (keeps-placeholder k (fill placeholder (rest ks) s) c)
@@ -217,7 +218,7 @@ module _ {rule : Rule} (between : Between rule) where
           ∙ sym (ap (sweep rule c 0) over)
       go false a =
           let split = between .a-name .split in
-          let more-free = or-false (isMark start) (hasMark more) (sym (ap hasMark split) ∙ between .a-name .free) .1 in
+          let more-free = or-neither (isMark start) (hasMark more) (sym (ap hasMark split) ∙ between .a-name .free) .1 in
           let under : start ∷ fill placeholder ks (more ++ z) ≡ name ++ fill placeholder ks z =
           ap (λ l. start ∷ l) (fill-over more z ks more-free) ∙ ap (λ w. w ++ fill placeholder ks z) (sym split) in
           ap (λ w. fill placeholder ks (sweep rule b 0 (w ++ z))) split

@@ -10,10 +10,9 @@ use native.Mathlib.Omega.{arith}
 use lib.Dec.{eqb}
 use borrow.Author.Tests.{ne-eqb}
 use Rattle.spec.specs.Symbols.{starts, find, textMark}
-use Rattle.spec.specs.Laws.Symbols.{find-past}
+use Rattle.spec.specs.Laws.Symbols.{find-past, starts-unequal, starts-long}
 use Rattle.spec.specs.Held.{placeholder}
-use Rattle.held_laws.specs.Marks.{and-true}
-use Rattle.held_laws.specs.Replacing.{starts-unequal}
+use Rattle.spec.specs.Laws.Ends.{starts-front}
 use Rattle.held_laws.specs.Remains.{backslash, Narrow, narrow-placeholder}
 
 unfoldable pub Lacks : ℕ → List ℕ → Type 0
@@ -23,15 +22,8 @@ Lacks c (x ∷ s) = (eqb c x ≡ false) × Lacks c s
 pub starts-stop : (c : ℕ) (p x z : List ℕ) → Lacks c p → starts p (x ++ (c ∷ z)) ≡ starts p x
 unfolding Lacks
 starts-stop c [] x z h = refl
-starts-stop c (q ∷ p) [] z h = starts-unequal q p c z (h .0)
+starts-stop c (q ∷ p) [] z h = starts-unequal q c p z (h .0)
 starts-stop c (q ∷ p) (b ∷ x) z h = ap (λ t. t && eqb b q) (starts-stop c p x z (h .1))
-
-starts-on : (p x s : List ℕ) → starts p x ≡ true → starts p (x ++ s) ≡ true
-starts-on [] x s e = refl
-starts-on (q ∷ p) [] s e = absurd (false≢true e)
-starts-on (q ∷ p) (b ∷ x) s e =
-    let both = and-true (starts p x) (eqb b q) e in
-    ap (λ t. t && eqb b q) (starts-on p x s (both .0)) ∙ both .1
 
 -- every place of x is passed
 unfoldable pub Passed : List ℕ → List ℕ → List ℕ → Type 0
@@ -60,7 +52,7 @@ passed-mark name [] s z lacks h = tt
 passed-mark name (c ∷ x) s z lacks h = (look (starts name (c ∷ x)) refl, passed-mark name x s z lacks (h .1))
   where
     look : (t : Bool) → starts name (c ∷ x) ≡ t → starts name (c ∷ (x ++ (textMark ∷ z))) ≡ false
-    look true e = absurd (false≢true (sym (h .0) ∙ starts-on name (c ∷ x) s e))
+    look true e = absurd (false≢true (sym (h .0) ∙ starts-front name (c ∷ x) s (starts-long name (c ∷ x) e) ∙ e))
     look false e = starts-stop textMark name (c ∷ x) z lacks ∙ e
 
 -- no name with a backslash in front begins in a placeholder
@@ -68,7 +60,7 @@ pub narrow-passed : (name x s : List ℕ) → Narrow x → Passed (backslash ∷
 unfolding Passed Narrow
 narrow-passed name [] s h = tt
 narrow-passed name (b ∷ x) s h =
-    (starts-unequal backslash name b (x ++ s) (ne-eqb b backslash (λ e. let low = h .0 in omega arith)), narrow-passed name x s (h .1))
+    (starts-unequal backslash b name (x ++ s) (ne-eqb b backslash (λ e. let low = h .0 in omega arith)), narrow-passed name x s (h .1))
 
 pub passed-placeholder : (name x s z : List ℕ) (k : ℕ) → Lacks textMark (backslash ∷ name) → Passed (backslash ∷ name) x s → Passed (backslash ∷ name) (x ++ placeholder k) z
 unfolding placeholder

@@ -10,11 +10,9 @@ use Prim.Native.Nat.{ℕ, _+_, _-_}
 use native.Mathlib.Omega.{arith}
 use lib.ListN.{length}
 use Rattle.spec.specs.Symbols.{bytes, textMark, romanMark}
-use Rattle.spec.specs.Held.{Taken, takeOut, holdTexts, holdBoth, numbered, numberedRomans}
-use Rattle.held_laws.specs.Marks.{hasMark, count}
-use Rattle.held_laws.specs.WellMade.{unmarked-count}
-use Rattle.held_laws.specs.TakeOut.{Turns, turns}
-use Rattle.held_laws.specs.Holding.{taken-other}
+use Rattle.spec.specs.Held.{holdTexts, holdBoth, numbered, numberedRomans}
+use Rattle.held_laws.specs.Marks.{hasMark}
+use Rattle.held_laws.specs.Holding.{textsTaken, textTurns, romansTaken, romanTurns, roman-left}
 use Rattle.held_laws.specs.Limits.{taken-length, taken-long}
 use Rattle.placeholders.specs.Placeholders.{texts, both, placed, orNext, turned, holdOut}
 use Rattle.placeholders.specs.Finding.{Lacks, Passed}
@@ -30,24 +28,15 @@ unfolding Lacks
 lacks = (refl, (refl, (refl, (refl, (refl, (refl, tt))))))
 
 module _ (s : List ℕ) (free : hasMark s ≡ false) where
-  abbrev texts-taken : Taken
-  texts-taken = takeOut (bytes "\\text{") textMark 0 s
-
-  abbrev text-turns : Turns (bytes "\\text{") textMark s texts-taken
-  text-turns = turns (bytes "\\text{") textMark s
-
-  no-roman : count romanMark (texts-taken .left) ≡ 0
-  no-roman = let none = unmarked-count s free .1 in let other = taken-other (bytes "\\text{") textMark romanMark refl text-turns in omega arith
-
-  texts-out : (others : List (List ℕ)) → one.Held (bytes "text{") lacks others [] s [] texts-taken
+  texts-out : (others : List (List ℕ)) → one.Held (bytes "text{") lacks others [] s [] (textsTaken s)
   unfolding Passed
-  texts-out others = held-turns (bytes "text{") lacks others text-turns [] [] tt free
+  texts-out others = held-turns (bytes "text{") lacks others (textTurns s) [] [] tt free
 
   -- a text has more symbols than blocks
-  text-fuel : length s - length (texts-taken .blocks) + length (texts-taken .blocks) ≡ length s
+  text-fuel : length s - length (textsTaken s .blocks) + length (textsTaken s .blocks) ≡ length s
   text-fuel =
-      let l = taken-length (bytes "\\text{") textMark text-turns in
-      let m = taken-long (bytes "\\text{") textMark (omega arith) text-turns in
+      let l = taken-length (bytes "\\text{") textMark (textTurns s) in
+      let m = taken-long (bytes "\\text{") textMark (omega arith) (textTurns s) in
       omega arith
 
   -- the `\mathrm` marks count from any number, there being none
@@ -56,26 +45,20 @@ module _ (s : List ℕ) (free : hasMark s ≡ false) where
   texts-held r =
       let h = texts-out [] in
       ap (λ n. turned texts n (placed s [])) (sym text-fuel)
-      ∙ reaches-end (h .reaches) (ap (λ o. orNext o none) (h .none-left)) (length s - length (texts-taken .blocks))
-      ∙ ap (λ l. placed l (texts-taken .blocks)) (sym (numbered-texts (texts-taken .left) 0 r no-roman))
+      ∙ reaches-end (h .reaches) (ap (λ o. orNext o none) (h .none-left)) (length s - length (textsTaken s .blocks))
+      ∙ ap (λ l. placed l (textsTaken s .blocks)) (sym (numbered-texts (textsTaken s .left) 0 r (roman-left s free)))
 
   -- ---- words
-  abbrev romans-taken : Taken
-  romans-taken = takeOut (bytes "\\mathrm{") romanMark 0 (texts-taken .left)
-
-  abbrev turns-of-romans : Turns (bytes "\\mathrm{") romanMark (texts-taken .left) romans-taken
-  turns-of-romans = turns (bytes "\\mathrm{") romanMark (texts-taken .left)
-
-  romans-out : roman.Held [] 0 (texts-taken .left) (texts-taken .blocks) romans-taken
+  romans-out : roman.Held [] 0 (textsTaken s .left) (textsTaken s .blocks) (romansTaken s)
   unfolding Passed
-  romans-out = roman-turns turns-of-romans [] 0 (texts-taken .blocks) tt no-roman (none-stuck (numberedFrom 0 (texts-taken .left)) (texts-out (bytes "\\mathrm{" ∷ []) .none-left))
+  romans-out = roman-turns (romanTurns s) [] 0 (textsTaken s .blocks) tt (roman-left s free) (none-stuck (numberedFrom 0 (textsTaken s .left)) (texts-out (bytes "\\mathrm{" ∷ []) .none-left))
 
-  both-fuel : length s - (length (romans-taken .blocks) + length (texts-taken .blocks)) + (length (romans-taken .blocks) + length (texts-taken .blocks)) ≡ length s
+  both-fuel : length s - (length (romansTaken s .blocks) + length (textsTaken s .blocks)) + (length (romansTaken s .blocks) + length (textsTaken s .blocks)) ≡ length s
   both-fuel =
-      let l = taken-length (bytes "\\text{") textMark text-turns in
-      let m = taken-long (bytes "\\text{") textMark (omega arith) text-turns in
-      let l′ = taken-length (bytes "\\mathrm{") romanMark turns-of-romans in
-      let m′ = taken-long (bytes "\\mathrm{") romanMark (omega arith) turns-of-romans in
+      let l = taken-length (bytes "\\text{") textMark (textTurns s) in
+      let m = taken-long (bytes "\\text{") textMark (omega arith) (textTurns s) in
+      let l′ = taken-length (bytes "\\mathrm{") romanMark (romanTurns s) in
+      let m′ = taken-long (bytes "\\mathrm{") romanMark (omega arith) (romanTurns s) in
       omega arith
 
   pub both-held :
@@ -85,4 +68,4 @@ module _ (s : List ℕ) (free : hasMark s ≡ false) where
   both-held =
       ap (λ n. turned both n (placed s [])) (sym both-fuel)
       ∙ reaches-end (reaches-then (texts-out (bytes "\\mathrm{" ∷ []) .reaches) (romans-out .reaches)) (romans-out .none-left)
-      (length s - (length (romans-taken .blocks) + length (texts-taken .blocks)))
+      (length s - (length (romansTaken s .blocks) + length (textsTaken s .blocks)))

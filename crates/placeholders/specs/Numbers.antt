@@ -4,9 +4,9 @@
 --     number-unclosed, number-closed    and a closing search finds the same closer
 --     numbered-plain ..  the steps of `numbered` and `numberedRomans`
 use mathlib.Core.Path.{_≡_, refl, sym, ap, ap₂, _∙_}
-use mathlib.Core.Bool.{Bool, true, false, cond, _&&_, false≢true}
+use mathlib.Core.Bool.{Bool, true, false, cond, _&&_}
 use mathlib.Core.List.{List, [], _∷_, _++_, append-assoc}
-use mathlib.Core.Option.{Option, none, some}
+use mathlib.Core.Option.{Option, none, some, Option·none-ne-some, Option·some-ne-none}
 use Prim.Native.Nat.{ℕ, zero, suc, _+_}
 use Prim.Native.Char.{code}
 use native.Mathlib.Nat.{add-zero, add-suc, suc-add}
@@ -18,11 +18,12 @@ use borrow.Author.Tests.{eqb-true, eqb-false, ne-eqb}
 use Rattle.spec.specs.Symbols.{starts, textMark, romanMark}
 use Rattle.spec.specs.Closing.{Side, opens, closes, neither, side, sideOf, close}
 use Rattle.spec.specs.Held.{placeholder, marks, numbered, numberedRomans}
+use Rattle.spec.specs.Laws.Symbols.{starts-split, starts-unequal}
+use Rattle.spec.specs.Laws.Held.{romans-none}
 use Rattle.held_laws.specs.Marks.{count}
-use Rattle.held_laws.specs.Replacing.{starts-split, starts-unequal}
 use Rattle.held_laws.specs.Remains.{Narrow, narrow-placeholder}
 use Rattle.held_laws.specs.InFull.{returned}
-use Rattle.held_laws.specs.TakeOut.{theText, isSome}
+use Rattle.held_laws.specs.TakeOut.{theText}
 use Rattle.placeholders.specs.Finding.{Lacks}
 
 abbrev pub numberedFrom : ℕ → List ℕ → List ℕ
@@ -62,8 +63,8 @@ number-starts (q ∷ p) (b ∷ s) t h = go (eqb b textMark) refl (number-starts 
   where
     go : (m : Bool) → eqb b textMark ≡ m → starts p (numberedFrom t s) ≡ starts p s → starts (q ∷ p) (cond m (placeholder t ++ numberedFrom (suc t) s) (b ∷ numberedFrom t s)) ≡ starts p s && eqb b q
     go true e more =
-        starts-unequal q p textMark _ (h .0)
-        ∙ sym (ap (λ c. starts (q ∷ p) (c ∷ s)) (eqb-true b textMark e) ∙ starts-unequal q p textMark s (h .0))
+        starts-unequal q textMark p _ (h .0)
+        ∙ sym (ap (λ c. starts (q ∷ p) (c ∷ s)) (eqb-true b textMark e) ∙ starts-unequal q textMark p s (h .0))
     go false e more = ap (λ u. u && eqb b q) more
 
 -- behind a name
@@ -123,13 +124,13 @@ number-unclosed (b ∷ s) t d e = go (eqb b textMark) refl (number-unclosed s (s
       where
         look : (z : Side) (d : ℕ) → step z d s ≡ none → step z d (numberedFrom t s) ≡ none
         look opens d e = other (suc d) e
-        look closes zero e = absurd (false≢true (sym (ap isSome e)))
+        look closes zero e = absurd (Option·some-ne-none _ e)
         look closes (suc d) e = other d e
         look neither d e = other d e
 
 pub number-closed : (s : List ℕ) (t d : ℕ) (behind : List ℕ) → brace d s ≡ some behind → Closed t d s behind
 unfolding close returned count
-number-closed [] t d behind e = absurd (false≢true (ap isSome e))
+number-closed [] t d behind e = absurd (Option·none-ne-some _ e)
 number-closed (b ∷ s) t d behind e = go (eqb b textMark) refl (number-closed s (suc t)) (number-closed s t)
   where
     go : (m : Bool) → eqb b textMark ≡ m → ((d : ℕ) (behind : List ℕ) → brace d s ≡ some behind → Closed (suc t) d s behind)
@@ -159,11 +160,6 @@ number-closed (b ∷ s) t d behind e = go (eqb b textMark) refl (number-closed s
         look neither p d e = let c = other d behind e in closed-more b c (here neither p d) (same (c .front))
 
 -- ---- the steps of the spec's numbering
-pub romans-none : (s : List ℕ) (t : ℕ) → numberedRomans [] t s ≡ []
-unfolding numberedRomans
-romans-none [] t = refl
-romans-none (x ∷ s) t = refl
-
 module _ (y : ℕ) (no-text : eqb y textMark ≡ false) (no-roman : eqb y romanMark ≡ false) (t : ℕ) (s : List ℕ) where
   pub numbered-plain : (romans : List (List ℕ)) (r : ℕ) → numbered romans t r (y ∷ s) ≡ y ∷ numbered romans t r s
   unfolding numbered
@@ -178,7 +174,7 @@ module _ (y : ℕ) (no-text : eqb y textMark ≡ false) (no-roman : eqb y romanM
 
   pub romans-plain : (romans : List (List ℕ)) → numberedRomans romans t (y ∷ s) ≡ numberedRomans romans t s
   unfolding numberedRomans
-  romans-plain [] = sym (romans-none s t)
+  romans-plain [] = sym (romans-none t s)
   romans-plain (b ∷ bs) =
       ap₂ (λ m n. elim m as (λ _. List (List ℕ)) [
         | true ↦ numberedRomans (b ∷ bs) (suc t) s
@@ -190,7 +186,7 @@ module _ (y : ℕ) (no-text : eqb y textMark ≡ false) (no-roman : eqb y romanM
 
 pub romans-text : (romans : List (List ℕ)) (t : ℕ) (s : List ℕ) → numberedRomans romans t (textMark ∷ s) ≡ numberedRomans romans (suc t) s
 unfolding numberedRomans
-romans-text [] t s = sym (romans-none s (suc t))
+romans-text [] t s = sym (romans-none (suc t) s)
 romans-text (b ∷ bs) t s = refl
 
 -- a text with `\text` marks alone

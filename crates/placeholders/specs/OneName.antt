@@ -12,13 +12,14 @@ use native.Mathlib.Numerals.{add-one}
 use native.Mathlib.Omega.{arith}
 use lib.ListN.{length, drop, length-append}
 use Rattle.spec.specs.Symbols.{until, starts, find, textMark}
-use Rattle.spec.specs.Laws.Symbols.{find-here}
+use Rattle.spec.specs.Laws.Symbols.{find-here, until-append}
 use Rattle.spec.specs.Closing.{findMatchingBrace}
 use Rattle.spec.specs.Held.{Taken, placeholder}
-use Rattle.held_laws.specs.Marks.{isMark, hasMark, or-false, not-text-mark, has-mark-append}
+use Rattle.spec.specs.Laws.Booleans.{or-neither}
+use Rattle.held_laws.specs.Marks.{isMark, hasMark, not-text-mark, has-mark-append}
 use Rattle.held_laws.specs.Remains.{backslash}
 use Rattle.held_laws.specs.InFull.{returned}
-use Rattle.held_laws.specs.TakeOut.{until-front, Turns, ended, unclosed, passing, holding}
+use Rattle.held_laws.specs.TakeOut.{Turns, ended, unclosed, passing, holding}
 use Rattle.placeholders.specs.Placeholders.{Placed, placed, closed, foundAt, firstBlock, orNext, firstOf, heldOne, turned}
 use Rattle.placeholders.specs.Finding.{Lacks, Passed, passed-find, passed-more, passed-placeholder}
 
@@ -38,7 +39,7 @@ module _ (name x s : List ℕ) (passed : Passed name x s) (long : 0 < length s) 
   block-found block behind split c =
       ap (foundAt name (x ++ s)) first-at
       ∙ ap (closed (x ++ s) s) c
-      ∙ ap₂ (λ u v. some (record { before = u; block = v; behind = behind })) (until-front x s) (ap (λ l. until l behind) split ∙ until-front block behind)
+      ∙ ap₂ (λ u v. some (record { before = u; block = v; behind = behind })) (until-append x s) (ap (λ l. until l behind) split ∙ until-append block behind)
 
 -- ---- some turns
 pub record Reaches (names : List (List ℕ)) (n : ℕ) (p q : Placed) : Type 0 where
@@ -74,7 +75,7 @@ returned-unmarked : (f : ℕ → List ℕ) (k : ℕ) (s : List ℕ) → hasMark 
 unfolding returned
 returned-unmarked f k [] e = refl
 returned-unmarked f k (b ∷ s) e =
-    let both = or-false (isMark b) (hasMark s) e in
+    let both = or-neither (isMark b) (hasMark s) e in
     rw (not-text-mark b (both .0)) (ap (λ l. b ∷ l) (returned-unmarked f k s (both .1)))
 
 module _ (w : List ℕ) (lacks : Lacks textMark (backslash ∷ w)) (others : List (List ℕ)) where
@@ -104,7 +105,7 @@ module _ (w : List ℕ) (lacks : Lacks textMark (backslash ∷ w)) (others : Lis
   held-turns (unclosed [] e f) x bs passed free = held-nothing x [] bs free (block-missing name x [] passed refl)
   held-turns (unclosed (y ∷ s) e f) x bs passed free = held-nothing x (y ∷ s) bs free (block-unclosed name x (y ∷ s) passed (omega arith) e f)
   held-turns (passing y s t e next) x bs passed free =
-      let both = or-false (isMark y) (hasMark s) free in
+      let both = or-neither (isMark y) (hasMark s) free in
       let more = held-turns next (x ++ (y ∷ [])) bs (passed-more name x y s passed e) (both .1) in
       let unmarked = not-text-mark y (both .0) in
       let here : (x ++ (y ∷ [])) ++ returned textMark placeholder (length bs) (t .left) ≡ x ++ returned textMark placeholder (length bs) (y ∷ t .left) =
@@ -118,7 +119,7 @@ module _ (w : List ℕ) (lacks : Lacks textMark (backslash ∷ w)) (others : Lis
   held-turns (holding y block behind t e f next) x bs passed free =
       let b = y ∷ block in
       let k = length bs in
-      let behind-free = or-false (hasMark b) (hasMark behind) (sym (has-mark-append b behind) ∙ free) .1 in
+      let behind-free = or-neither (hasMark b) (hasMark behind) (sym (has-mark-append b behind) ∙ free) .1 in
       let more = held-turns next (x ++ placeholder k) (bs ++ (b ∷ [])) (passed-placeholder w x (b ++ behind) behind k lacks passed) behind-free in
       let count : length (bs ++ (b ∷ [])) ≡ suc k = length-append bs (b ∷ []) ∙ add-one k in
       let text : (x ++ placeholder k) ++ returned textMark placeholder (length (bs ++ (b ∷ []))) (t .left) ≡ x ++ (placeholder k ++ returned textMark placeholder (suc k) (t .left)) =

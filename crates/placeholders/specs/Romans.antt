@@ -12,17 +12,17 @@ use lib.ListN.{length, drop, length-append}
 use borrow.Author.Tests.{eqb-true}
 use Rattle.spec.specs.Symbols.{bytes, starts, find, textMark, romanMark}
 use Rattle.spec.specs.Closing.{findMatchingBrace}
-use Rattle.spec.specs.Laws.Symbols.{starts-long}
+use Rattle.spec.specs.Laws.Symbols.{starts-long, starts-split}
 use Rattle.spec.specs.Held.{Taken, leaving, taking, placeholder, marks, numbered, numberedRomans}
+use Rattle.spec.specs.Laws.Held.{romans-none}
 use Rattle.held_laws.specs.Marks.{count}
-use Rattle.held_laws.specs.Replacing.{starts-split}
 use Rattle.held_laws.specs.WellMade.{count-append, marks-count}
 use Rattle.held_laws.specs.InFull.{returned}
 use Rattle.held_laws.specs.TakeOut.{Turns, ended, unclosed, passing, holding}
 use Rattle.placeholders.specs.Placeholders.{both, Placed, placed, firstBlock, orNext, firstOf, heldOne}
 use Rattle.placeholders.specs.Finding.{Lacks, Passed, passed-more, passed-placeholder}
 use Rattle.placeholders.specs.OneName.{block-missing, block-unclosed, block-found, Reaches, reaches-now, reaches-one}
-use Rattle.placeholders.specs.Numbers.{numberedFrom, number-append, number-starts, number-behind, number-unclosed, number-closed, numbered-plain, romans-plain, romans-text, romans-none, numbered-texts}
+use Rattle.placeholders.specs.Numbers.{numberedFrom, number-append, number-starts, number-behind, number-unclosed, number-closed, numbered-plain, romans-plain, romans-text, numbered-texts}
 use Rattle.placeholders.specs.Stuck.{stuck, stuck-none, stuck-over}
 
 abbrev name : List ℕ
@@ -55,7 +55,7 @@ held-nothing x t s bs free e f =
     let text = ap (λ l. x ++ l) (sym same) in
     record {
       reaches =
-          subst (Reaches both 0 (before x t s bs)) (ap₂ placed text (sym (append-nil bs) ∙ ap (λ l. bs ++ l) (sym (romans-none s t))))
+          subst (Reaches both 0 (before x t s bs)) (ap₂ placed text (sym (append-nil bs) ∙ ap (λ l. bs ++ l) (sym (romans-none t s))))
           (reaches-now both (before x t s bs));
       none-left = ap (firstOf both) (sym text) ∙ none-both (x ++ numberedFrom t s) e f;
     }

@@ -5,7 +5,7 @@
 use mathlib.Core.Path.{_≡_, refl, sym, ap, ap₂, _∙_}
 use mathlib.Core.Bool.{Bool, true, false, _&&_, false≢true}
 use mathlib.Core.List.{List, [], _∷_, _++_}
-use mathlib.Core.Option.{Option, none, some}
+use mathlib.Core.Option.{Option, none, some, Option·none-ne-some, Option·some-ne-none}
 use Prim.Native.Nat.{ℕ, zero, suc, _+_}
 use Prim.Native.Char.{code}
 use native.Mathlib.Nat.{add-zero, add-suc}
@@ -14,12 +14,11 @@ use lib.Dec.{eqb}
 use lib.ListN.{length, drop}
 use lib.Seq.{drop-append-le}
 use Rattle.spec.specs.Symbols.{bytes, starts, find, textMark}
-use Rattle.spec.specs.Laws.Symbols.{find-here, find-past, starts-long}
+use Rattle.spec.specs.Laws.Symbols.{find-here, find-past, starts-long, starts-split, starts-unequal}
 use Rattle.spec.specs.Closing.{Side, opens, closes, neither, side, close, findMatchingBrace}
 use Rattle.spec.specs.Held.{placeholder}
-use Rattle.held_laws.specs.Replacing.{starts-split, starts-unequal}
 use Rattle.held_laws.specs.Remains.{backslash, narrow-placeholder}
-use Rattle.held_laws.specs.TakeOut.{theText, isSome}
+use Rattle.held_laws.specs.TakeOut.{theText}
 use Rattle.placeholders.specs.Placeholders.{Block, closed, foundAt, firstBlock}
 use Rattle.placeholders.specs.Finding.{Lacks, starts-stop, passed-find, narrow-passed}
 use Rattle.placeholders.specs.Numbers.{brace, step, placeholder-close}
@@ -81,7 +80,7 @@ unfolding stuck
 stuck-past y s e = ap openAt (find-past textName y s e)
 
 stuck-other : (y : ℕ) (s : List ℕ) → eqb y backslash ≡ false → stuck (y ∷ s) ≡ stuck s
-stuck-other y s e = stuck-past y s (starts-unequal backslash tail y s e)
+stuck-other y s e = stuck-past y s (starts-unequal backslash y tail s e)
 
 -- ---- closing searches
 -- more open brackets close later, if at all
@@ -92,7 +91,7 @@ close-deeper (y ∷ s) d e = go (side (code "{") (code "}") y) d e (close-deeper
   where
     go : (z : Side) (d : ℕ) → step z d s ≡ none → ((d : ℕ) → brace d s ≡ none → brace (suc d) s ≡ none) → step z (suc d) s ≡ none
     go opens d e more = more (suc d) e
-    go closes zero e more = absurd (false≢true (sym (ap isSome e)))
+    go closes zero e more = absurd (Option·some-ne-none _ e)
     go closes (suc d) e more = more d e
     go neither d e more = more d e
 
@@ -103,7 +102,7 @@ close-never s (suc d) e = close-deeper s d (close-never s d e)
 -- e + 1 brackets close at z: with d + 1 more open, the search goes on from there
 close-through : (s : List ℕ) (d e : ℕ) (z : List ℕ) → brace e s ≡ some z → brace (suc (d + e)) s ≡ brace d z
 unfolding close
-close-through [] d e z c = absurd (false≢true (ap isSome c))
+close-through [] d e z c = absurd (Option·none-ne-some _ c)
 close-through (y ∷ s) d e z c = go (side (code "{") (code "}") y) e c (close-through s d)
   where
     go : (k : Side) (e : ℕ) → step k e s ≡ some z → ((e : ℕ) (z : List ℕ) → brace e s ≡ some z → brace (suc (d + e)) s ≡ brace d z) → step k (suc (d + e)) s ≡ brace d z
@@ -137,7 +136,7 @@ roman-opens v d = refl
 -- what is open closes at z, so no `\text{` before z stays open
 stuck-inside : (s : List ℕ) (d : ℕ) (z : List ℕ) → brace d s ≡ some z → stuck s ≡ true → stuck z ≡ true
 unfolding close
-stuck-inside [] d z c e = absurd (false≢true (ap isSome c))
+stuck-inside [] d z c e = absurd (Option·none-ne-some _ c)
 stuck-inside (y ∷ s) d z c e = go (starts textName (y ∷ s)) refl (stuck-inside s)
   where
     within : starts textName (y ∷ s) ≡ true → brace (suc d) (drop (length textName) (y ∷ s)) ≡ some z
@@ -146,7 +145,7 @@ stuck-inside (y ∷ s) d z c e = go (starts textName (y ∷ s)) refl (stuck-insi
     go : (t : Bool) → starts textName (y ∷ s) ≡ t → ((d : ℕ) (z : List ℕ) → brace d s ≡ some z → stuck s ≡ true → stuck z ≡ true) → stuck z ≡ true
     go true met more =
         let never = close-never (drop (length textName) (y ∷ s)) (suc d) (is-none _ (sym (stuck-here y s met) ∙ e)) in
-        absurd (false≢true (ap isSome (sym never ∙ within met)))
+        absurd (Option·none-ne-some _ (sym never ∙ within met))
     go false other more = look (side (code "{") (code "}") y) d c
       where
         on : stuck s ≡ true

@@ -18,13 +18,15 @@ use Rattle.spec.specs.Table.{Definition}
 use Rattle.spec.specs.Definitions.{applyDefinition, applyDefinitions, applyDefinitionsOutsideText}
 use Rattle.spec.specs.Rows.{Row, greekLetters, wordMappings}
 use Rattle.spec.specs.Words.{greek, wordOrLiteral, heldRows, convertWords}
-use Rattle.held_laws.specs.Marks.{hasMark, fill, and-true}
+use Rattle.spec.specs.Laws.Booleans.{and-parts}
+use Rattle.spec.specs.Laws.Held.{romans-none}
+use Rattle.held_laws.specs.Marks.{hasMark, fill}
 use Rattle.held_laws.specs.Broken.{marked}
 use Rattle.held_laws.specs.Numbering.{numbers, numbered-fill, not-both}
 use Rattle.held_laws.specs.Rewriting.{Between, marksOf, sweep-marks}
 use Rattle.held_laws.specs.Instances.{EverySound, defined-between, fineRow, fineRows, greek-fine, words-fine, greek-between, word-between, passed-one, stage-made}
 use Rattle.placeholders.specs.Placeholders.{texts, both, Placed, placed, holdOut, definedAll, rustDefinitions, rewrittenAll, rustWords}
-use Rattle.placeholders.specs.Numbers.{romans-plain, romans-text, romans-none}
+use Rattle.placeholders.specs.Numbers.{romans-plain, romans-text}
 use Rattle.placeholders.specs.Literal.{texts-held, both-held}
 use Rattle.placeholders.specs.Commutes.{sweep-fill}
 
@@ -118,7 +120,7 @@ module _ (order : List Definition) (sound : EverySound order) (s : List ℕ) (fr
       ∙ sym (ap (λ p. restored 0 (p .blocks) (p .text)) (placed-definitions order sound (holdTexts s) g through))
     where
       append-romans : (bs : List (List ℕ)) (l : List ℕ) → bs ≡ bs ++ numberedRomans [] 0 l
-      append-romans bs l = sym (ap (λ r. bs ++ r) (romans-none l 0) ∙ append-nil bs)
+      append-romans bs l = sym (ap (λ r. bs ++ r) (romans-none 0 l) ∙ append-nil bs)
 
   pub definitions-answer :
       applyDefinitionsOutsideText order s ≡ cond (marked (rustDefinitions order s)) (refused 6) (passed (rustDefinitions order s))
@@ -134,7 +136,7 @@ placed-rows :
 unfolding heldRows rewrittenAll
 placed-rows rule each [] f h g e = ap placedOf (sym (passed-one e))
 placed-rows rule each (r ∷ rs) f h g e =
-    let both = and-true (fineRow r) (fineRows rs) f in
+    let both = and-parts (fineRow r) (fineRows rs) f in
     placed-rows rule each rs (both .1) (withText h (sweep (rule r) 0 0 (h .text))) g (stage-made (sweep (rule r) 0 0) h (heldRows rule rs) e)
     ∙ ap (λ p. placed (rewrittenAll rule rs (p .text)) (p .blocks)) (placed-sweep (each r (both .0)) h)
 

@@ -11,20 +11,21 @@ use lib.ListN.{length}
 use lib.Seq.{take-at}
 use borrow.Author.Tests.{ltb-true, lt-ltb, ne-eqb}
 use Rattle.spec.specs.Symbols.{letter, digit, alnum, all}
+use Rattle.spec.specs.Finish.{oneOf}
 use Rattle.spec.specs.Grammar.{Atom, variable, greek, number, greekName, greekNames, atomText}
 use Rattle.spec.specs.Laws.Booleans.{and-left, and-right, and-both, or-left, or-right, or-split}
-use Rattle.rows.specs.Named.{isNamed, named-row, row-named, all-at}
+use Rattle.spec.specs.Laws.Names.{row-of, row-one-of, row-rule}
 use Rattle.plain.specs.Tokens.{at, run, isNumber, isVariable, isAtom, atomLength}
 
 -- ---- every atom's text is taken
 pub atom-tested : (a : Atom) → isAtom (atomText a) ≡ true
 unfolding greekName
-atom-tested (variable c e) = or-right (isNumber (c ∷ [])) (isVariable (c ∷ []) || isNamed greekNames (c ∷ [])) (or-left (isNamed greekNames (c ∷ [])) (and-both e refl))
+atom-tested (variable c e) = or-right (isNumber (c ∷ [])) (isVariable (c ∷ []) || oneOf greekNames (c ∷ [])) (or-left (oneOf greekNames (c ∷ [])) (and-both e refl))
 atom-tested (greek row e) =
     let name = greekName row in
-    or-right (isNumber name) (isVariable name || isNamed greekNames name)
-    (or-right (isVariable name) (isNamed greekNames name) (row-named greekNames row (ltb-true row 30 e)))
-atom-tested (number ds e b) = or-left (isVariable ds || isNamed greekNames ds) (and-both e b)
+    or-right (isNumber name) (isVariable name || oneOf greekNames name)
+    (or-right (isVariable name) (oneOf greekNames name) (row-one-of greekNames row (ltb-true row 30 e)))
+atom-tested (number ds e b) = or-left (isVariable ds || oneOf greekNames ds) (and-both e b)
 
 -- ---- and where a text is taken it is some atom's
 pub record Spelled (s : List ℕ) : Type 0 where
@@ -34,10 +35,10 @@ pub record Spelled (s : List ℕ) : Type 0 where
 pub spelled : (s : List ℕ) → isAtom s ≡ true → Spelled s
 unfolding greekName
 spelled s e =
-    or-split (isNumber s) (isVariable s || isNamed greekNames s) e
+    or-split (isNumber s) (isVariable s || oneOf greekNames s) e
     (λ n. let sizes = ltb 0 (length s) && ltb (length s) 10 in record { atom = number s (and-left (all digit s) sizes n) (and-right (all digit s) sizes n); spells = refl })
-    (λ o. or-split (isVariable s) (isNamed greekNames s) o (variable-of s)
-    (λ g. let r = named-row greekNames s g in record { atom = greek (r .row) (lt-ltb (r .row) 30 (r .within)); spells = r .holds }))
+    (λ o. or-split (isVariable s) (oneOf greekNames s) o (variable-of s)
+    (λ g. let r = row-of greekNames s g in record { atom = greek (r .row) (lt-ltb (r .row) 30 (r .within)); spells = r .holds }))
   where
     variable-of : (s : List ℕ) → isVariable s ≡ true → Spelled s
     variable-of [] e = absurd (false≢true e)
@@ -53,7 +54,7 @@ digits-words (x ∷ s) e =
 pub atom-words : (a : Atom) → all alnum (atomText a) ≡ true
 unfolding greekName
 atom-words (variable c e) = and-both (or-left (digit c) e) refl
-atom-words (greek row e) = all-at alnum greekNames refl row
+atom-words (greek row e) = row-rule (all alnum) greekNames refl row (ltb-true row 30 e)
 atom-words (number ds e b) = digits-words ds e
 
 -- no test for atoms holds of the empty text

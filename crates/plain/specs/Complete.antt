@@ -19,7 +19,7 @@ use Rattle.plain.specs.declared.Read.the-variants.{Found}
 use Rattle.plain.specs.Tokens.{at, signNext, factorNext}
 use Rattle.plain.specs.Parts.{leaf}
 use Rattle.plain.specs.Readers.{Answers, readSum, readProduct, readFactor, readOperand, readScript}
-use Rattle.plain.specs.Steps.{Front, sum-done, sum-more, product-done, product-more, factor-fraction, factor-scripted, factor-done, operand-atom, operand-group, scripts-more, script-absent, script-short, script-group}
+use Rattle.plain.specs.Steps.{sums, products, series-done, series-more, Front, factor-fraction, factor-scripted, factor-done, operand-atom, operand-group, scripts-more, script-absent, script-short, script-group}
 use Rattle.plain.specs.Atoms.{atom-some, atom-word, atom-length}
 use Rattle.plain.specs.Trees.{Sign, plus, minus, signed, signText, signed-text, inside, operand-inside, proper-unbarred, sumPart, productPart, factorPart, operandPart, scriptPart, product-part, signed-part, factor-part, beside-part, atom-part, enclosed-part, group-part, fraction-part, scripted-part, bare-part, symbol-part, inner-part}
 
@@ -148,14 +148,14 @@ complete-signed : (b : Sign) (p : Product) (s : Sum) (xs : List ℕ)
 complete-signed b p s xs first next =
     let ys = text s ++ xs in
     renamed (ap (λ (l : List ℕ). l ++ xs) (signed-text b p s) ∙ spread (productText p) (signText b) (text s) xs) (signed-part b p s)
-    (sum-more (front (productText p) (signText b ++ ys) refl first) (sign-next b ys) (sign-gone b ys) next)
+    (series-more sums (front (productText p) (signText b ++ ys) refl first) (sign-next b ys) (sign-gone b ys) next)
 
 -- ---- each rule
 mutual
   unfolding text
 
   pub complete-sum : (t : Sum) → proper t ≡ true → (xs : List ℕ) → EndsSum xs → Answers readSum 4 (text t ++ xs) (Found (sumPart t))
-  complete-sum (product p) g xs e = renamed refl (product-part p) (sum-done (front (productText p) xs refl (complete-product p g xs (e .product))) (e .sign))
+  complete-sum (product p) g xs e = renamed refl (product-part p) (series-done sums (front (productText p) xs refl (complete-product p g xs (e .product))) (e .sign))
   complete-sum (Grammar.plus p s) g xs e =
       let ys = signText plus ++ (text s ++ xs) in
       complete-signed plus p s xs (complete-product p (and-left (properProduct p) (proper s) g) ys (ends-sign plus (text s ++ xs))) (complete-sum s (and-right (properProduct p) (proper s) g) xs e)
@@ -164,12 +164,12 @@ mutual
       complete-signed minus p s xs (complete-product p (and-left (properProduct p) (proper s) g) ys (ends-sign minus (text s ++ xs))) (complete-sum s (and-right (properProduct p) (proper s) g) xs e)
 
   complete-product : (t : Product) → properProduct t ≡ true → (xs : List ℕ) → EndsProduct xs → Answers readProduct 3 (productText t ++ xs) (Found (productPart t))
-  complete-product (factor f) g xs e = renamed refl (factor-part f) (product-done (front (factorText f) xs refl (complete-factor f g xs (e .factor))) (e .space))
+  complete-product (factor f) g xs e = renamed refl (factor-part f) (series-done products (front (factorText f) xs refl (complete-factor f g xs (e .factor))) (e .space))
   complete-product (beside f p) g xs e =
       let ys = productText p ++ xs in
       let first = complete-factor f (and-left (properFactor f) (properProduct p) g) (bytes " " ++ ys) (ends-space ys) in
       renamed (spread (factorText f) (bytes " ") (productText p) xs) (beside-part f p)
-      (product-more (front (factorText f) (bytes " " ++ ys) refl first) (product-starts p xs) refl (complete-product p (and-right (properFactor f) (properProduct p) g) xs e))
+      (series-more products (front (factorText f) (bytes " " ++ ys) refl first) (product-starts p xs) refl (complete-product p (and-right (properFactor f) (properProduct p) g) xs e))
 
   complete-factor : (t : Factor) → properFactor t ≡ true → (xs : List ℕ) → EndsFactor xs → Answers readFactor 2 (factorText t ++ xs) (Found (factorPart t))
   complete-factor (scripted a l h) g xs e =

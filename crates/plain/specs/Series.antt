@@ -1,14 +1,14 @@
 -- A series: parts with a gap between them. The definitions read it from the right, the code by a loop from the left. Assumes nothing.
 --     joined-assoc                 why both give one part
---     Series, sums, products       what comes next in a series, and what reads the whole
 --     Begun, SoFar                 what is known once a part has been read
 --     Turn, Ahead                  what is known at the loop's head, where the next part begins
---     begun-sum, begun-product     the first part
---     ahead-more, ahead-less       a turn, and that less is left to read after it
-use mathlib.Core.Path.{_≡_, refl, sym, ap, _∙_}
-use mathlib.Core.Bool.{Bool, true, false, and-assoc}
+--     first-part                   what is known of the first part
+--     read-nothing, read-done      the loop ends: nothing is read, or nothing comes next
+--     read-turn, read-less         a turn, and that less is left to read after it
+use mathlib.Core.Path.{_≡_, refl, sym, ap, _∙_, subst}
+use mathlib.Core.Bool.{true, false, and-assoc}
 use mathlib.Core.List.{List}
-use Prim.Native.Nat.{ℕ, _+_, _≤_, _<_, _^_}
+use Prim.Native.Nat.{ℕ, suc, _+_, _≤_, _<_, _^_}
 use native.Mathlib.Nat.{add-assoc}
 use native.Mathlib.Omega.{arith}
 use lib.ListN.{length, drop, length-drop}
@@ -16,11 +16,9 @@ use lib.Seq.{drop-drop}
 use Rattle.plain.specs.declared.Part.{Part}
 use Rattle.plain.specs.declared.Read.{Read}
 use Rattle.plain.specs.declared.Read.the-variants.{Found, Nothing}
-use Rattle.plain.specs.Tokens.{signNext, factorNext}
 use Rattle.plain.specs.Parts.{bytesOf, FitBehind, Within, join, joined, behind}
-use Rattle.plain.specs.Readers.{Answers, readSum, readProduct, readFactor}
-use Rattle.plain.specs.Rooms.{sign-room, factor-room}
-use Rattle.plain.specs.Steps.{Split, fit, joined-within, sum-nothing, sum-done, sum-more, product-nothing, product-done, product-more}
+use Rattle.plain.specs.Readers.{Answers}
+use Rattle.plain.specs.Steps.{Split, fit, joined-within, Series, series-nothing, series-done, series-more}
 
 join-assoc : (p q r : Part) (a b : ℕ) → join p a (join q b r) ≡ join (join p a q) b r
 join-assoc p q r a b = simp (and-assoc, add-assoc)
@@ -29,30 +27,15 @@ joined-assoc : (p q : Part) (a b : ℕ) (r : Read) → joined p a (joined q b r)
 joined-assoc p q a b Nothing = refl
 joined-assoc p q a b (Found r) = ap (λ x. Found x) (join-assoc p q r a b)
 
--- `next` says whether a gap and one more part come next, and `read` reads the series
-pub record Series : Type 0 where
-  pub next : List ℕ → Bool
-  pub gap : ℕ
-  pub some : 0 < gap
-  pub room : (xs : List ℕ) → next xs ≡ true → gap ≤ length xs
-  pub read : ℕ → List ℕ → Read
-  pub rank : ℕ
-
-abbrev pub sums : Series
-sums = record { next = signNext; gap = 3; some = omega arith; room = sign-room; read = readSum; rank = 4 }
-
-abbrev pub products : Series
-products = record { next = factorNext; gap = 1; some = omega arith; room = factor-room; read = readProduct; rank = 3 }
-
 module _ (σ : Series) where
   -- xs begins with p, some parts of a series: p is all of it where nothing comes next, and what comes next is joined to p
   pub record Begun (xs : List ℕ) (p : Part) : Type 0 where
     pub within : Within (Found p) xs
-    pub done : {ys : List ℕ} → ys ≡ drop (p .used) xs → σ .next ys ≡ false → Answers (σ .read) (σ .rank) xs (Found p)
-    pub more : {ys zs : List ℕ} {r : Read} → ys ≡ drop (p .used) xs → σ .next ys ≡ true → zs ≡ drop (σ .gap) ys → Answers (σ .read) (σ .rank) zs r → Answers (σ .read) (σ .rank) xs (joined p (σ .gap) r)
+    pub done : {ys : List ℕ} → ys ≡ drop (p .used) xs → σ .next ys ≡ false → Answers (σ .read) (suc (σ .rank)) xs (Found p)
+    pub more : {ys zs : List ℕ} {r : Read} → ys ≡ drop (p .used) xs → σ .next ys ≡ true → zs ≡ drop (σ .gap) ys → Answers (σ .read) (suc (σ .rank)) zs r → Answers (σ .read) (suc (σ .rank)) xs (joined p (σ .gap) r)
 
   abbrev pub SoFar : List ℕ → Read → Type 0
-  SoFar xs Nothing = Answers (σ .read) (σ .rank) xs Nothing
+  SoFar xs Nothing = Answers (σ .read) (suc (σ .rank)) xs Nothing
   SoFar xs (Found p) = Begun xs p
 
   -- xs is p, a gap, and zs, where one more part begins
@@ -68,22 +51,13 @@ module _ (σ : Series) where
     first : Ahead xs Nothing xs
     later : {p : Part} {zs : List ℕ} → Turn xs p zs → Ahead xs (Found p) zs
 
-pub begun-sum : {xs : List ℕ} (r : Read) → Answers readProduct 3 xs r → SoFar sums xs r
-begun-sum Nothing a = sum-nothing a
-begun-sum (Found p) a =
+pub first-part : (σ : Series) {xs : List ℕ} (r : Read) → Answers (σ .part) (σ .rank) xs r → SoFar σ xs r
+first-part σ Nothing a = series-nothing σ a
+first-part σ (Found p) a =
     record {
       within = a .within;
-      done = λ d t. sum-done (record { answers = a; behind = d }) t;
-      more = λ d t f next. sum-more (record { answers = a; behind = d }) t f next;
-    }
-
-pub begun-product : {xs : List ℕ} (r : Read) → Answers readFactor 2 xs r → SoFar products xs r
-begun-product Nothing a = product-nothing a
-begun-product (Found p) a =
-    record {
-      within = a .within;
-      done = λ d t. product-done (record { answers = a; behind = d }) t;
-      more = λ d t f next. product-more (record { answers = a; behind = d }) t f next;
+      done = λ d t. series-done σ (record { answers = a; behind = d }) t;
+      more = λ d t f next. series-more σ (record { answers = a; behind = d }) t f next;
     }
 
 module _ {σ : Series} {xs : List ℕ} {p : Part} {zs : List ℕ} (turn : Turn σ xs p zs) where
@@ -95,7 +69,7 @@ module _ {σ : Series} {xs : List ℕ} {p : Part} {zs : List ℕ} (turn : Turn �
   skipped : (n : ℕ) {us : List ℕ} → us ≡ drop (p .used + σ .gap + n) xs → us ≡ drop n zs
   skipped n e = e ∙ sym (rw (turn .after, turn .behind, drop-drop (σ .gap) (p .used) xs, drop-drop n (p .used + σ .gap) xs))
 
-  all : {r : Read} → Answers (σ .read) (σ .rank) zs r → Answers (σ .read) (σ .rank) xs (joined p (σ .gap) r)
+  all : {r : Read} → Answers (σ .read) (suc (σ .rank)) zs r → Answers (σ .read) (suc (σ .rank)) xs (joined p (σ .gap) r)
   all next = turn .begun .more (turn .behind) (turn .comes) (turn .after) next
 
   turn-more : (r : Read) → SoFar σ zs r → SoFar σ xs (joined p (σ .gap) r)
@@ -116,7 +90,7 @@ module _ {σ : Series} {xs : List ℕ} where
   ahead-fit l first w = tt
   ahead-fit l (later turn) w = fit l (turn-split turn) w
 
-  pub ahead-more : {r : Read} {zs : List ℕ} → Ahead σ xs r zs → (q : Read) → SoFar σ zs q → SoFar σ xs (behind r (σ .gap) q)
+  ahead-more : {r : Read} {zs : List ℕ} → Ahead σ xs r zs → (q : Read) → SoFar σ zs q → SoFar σ xs (behind r (σ .gap) q)
   ahead-more first q a = a
   ahead-more (later turn) q a = turn-more turn q a
 
@@ -125,5 +99,26 @@ module _ {σ : Series} {xs : List ℕ} where
   passed (later turn) Nothing e = let z : _≡_ {A = ℕ} 0 1 = cc in absurd (omega arith)
   passed (later turn) (Found q) e = omega (arith, turn-split turn, ap bytesOf e)
 
-  pub ahead-less : {r : Read} {zs us : List ℕ} {p : Part} → Ahead σ xs r zs → (q : Read) → behind r (σ .gap) q ≡ Found p → Turn σ xs p us → length us < length zs
+  ahead-less : {r : Read} {zs us : List ℕ} {p : Part} → Ahead σ xs r zs → (q : Read) → behind r (σ .gap) q ≡ Found p → Turn σ xs p us → length us < length zs
   ahead-less ahead q e turn = omega (arith, passed ahead q e, turn-split turn, σ .some)
+
+-- ---- one more part q has been read at zs and joined to what was read before
+module _ {σ : Series} {xs : List ℕ} {r : Read} {zs : List ℕ} {r′ : Read} (ahead : Ahead σ xs r zs) (q : Read) (part : SoFar σ zs q) (joins : r′ ≡ behind r (σ .gap) q) where
+  so-far : SoFar σ xs r′
+  so-far = subst (SoFar σ xs) (sym joins) (ahead-more ahead q part)
+
+  pub read-nothing : r′ ≡ Nothing → Answers (σ .read) (suc (σ .rank)) xs Nothing
+  read-nothing e = subst (SoFar σ xs) e so-far
+
+  module _ {p : Part} (found : r′ ≡ Found p) {us : List ℕ} (rest : us ≡ drop (p .used) xs) where
+    begun : Begun σ xs p
+    begun = subst (SoFar σ xs) found so-far
+
+    pub read-done : σ .next us ≡ false → Answers (σ .read) (suc (σ .rank)) xs (Found p)
+    read-done t = begun .done rest t
+
+    pub read-turn : {ys : List ℕ} → σ .next us ≡ true → ys ≡ drop (σ .gap) us → Turn σ xs p ys
+    read-turn t after = record { begun = begun; rest = us; behind = rest; comes = t; after = after }
+
+    pub read-less : {ys : List ℕ} → σ .next us ≡ true → ys ≡ drop (σ .gap) us → length ys < length zs
+    read-less t after = ahead-less ahead q (sym joins ∙ found) (read-turn t after)

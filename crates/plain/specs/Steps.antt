@@ -15,7 +15,7 @@ use Rattle.plain.specs.declared.Part.{Part}
 use Rattle.plain.specs.declared.Read.{Read}
 use Rattle.plain.specs.declared.Read.the-variants.{Found, Nothing}
 use Rattle.plain.specs.Tokens.{at, signNext, factorNext, atomLength}
-use Rattle.plain.specs.Parts.{Fit, Within, bytesOf, either, over, barred, wrap, asScript, leaf, joined, divided, scripted, closed, grouped}
+use Rattle.plain.specs.Parts.{Fit, Within, bytesOf, either, andThen, over, barred, wrap, asScript, leaf, joined, divided, scripted, closed, grouped}
 use Rattle.plain.specs.Readers.{Answers, readSum, readProduct, readFactor, readOperand, readScripts, readScript}
 use Rattle.plain.specs.Rooms.{in-text, sign-room, factor-room, byte-room, word-room, atom-room}
 
@@ -65,35 +65,45 @@ module _ {read : ℕ → List ℕ → Read} {rank : ℕ} {xs : List ℕ} {p : Pa
   found : (k : ℕ) → 5 * length xs + rank < k → Found p ≡ read k xs
   found = front .answers .exact
 
--- a sum
-pub sum-nothing : {xs : List ℕ} → Answers readProduct 3 xs Nothing → Answers readSum 4 xs Nothing
+-- A series is parts with a gap between them: a sum of products, a product of factors. `next` says whether a gap and one more part come next; `part`,
+-- of this rank, reads a part, and `read` the series.
+pub record Series : Type 0 where
+  pub next : List ℕ → Bool
+  pub gap : ℕ
+  pub some : 0 < gap
+  pub room : (xs : List ℕ) → next xs ≡ true → gap ≤ length xs
+  pub part : ℕ → List ℕ → Read
+  pub read : ℕ → List ℕ → Read
+  pub rank : ℕ
+  pub step : (k : ℕ) (xs : List ℕ) → read (suc k) xs ≡ (andThen (part k xs) λ p. let ys = drop (p .used) xs in either (next ys) (λ _. joined p gap (read k (drop gap ys))) (λ _. Found p))
+
+pub sum-step : (k : ℕ) (xs : List ℕ) → readSum (suc k) xs ≡ (andThen (readProduct k xs) λ p. let ys = drop (p .used) xs in either (signNext ys) (λ _. joined p 3 (readSum k (drop 3 ys))) (λ _. Found p))
 unfolding readSum
-sum-nothing a = answers (λ k h. rw (← a .exact k (omega arith))) (omega arith)
+sum-step k xs = refl
 
-module _ {xs ys : List ℕ} {p : Part} (front : Front readProduct 3 xs p ys) where
-  pub sum-done : signNext ys ≡ false → Answers readSum 4 xs (Found p)
-  unfolding readSum
-  sum-done t = answers (λ k h. rw (← found front k (omega arith), ← front .behind, t)) (front .answers .within)
+abbrev pub sums : Series
+sums = record { next = signNext; gap = 3; some = omega arith; room = sign-room; part = readProduct; read = readSum; rank = 3; step = sum-step }
 
-  pub sum-more : {zs : List ℕ} {r : Read} → signNext ys ≡ true → zs ≡ drop 3 ys → Answers readSum 4 zs r → Answers readSum 4 xs (joined p 3 r)
-  unfolding readSum
-  sum-more {zs} {r} t f next = let s = split front 3 (sign-room ys t) f in
-      answers (λ k h. rw (← found front k (omega arith), ← front .behind, t, ← f, ← next .exact k (omega arith))) (joined-within r s (next .within))
-
--- a product
-pub product-nothing : {xs : List ℕ} → Answers readFactor 2 xs Nothing → Answers readProduct 3 xs Nothing
+pub product-step : (k : ℕ) (xs : List ℕ) → readProduct (suc k) xs ≡ (andThen (readFactor k xs) λ p. let ys = drop (p .used) xs in either (factorNext ys) (λ _. joined p 1 (readProduct k (drop 1 ys))) (λ _. Found p))
 unfolding readProduct
-product-nothing a = answers (λ k h. rw (← a .exact k (omega arith))) (omega arith)
+product-step k xs = refl
 
-module _ {xs ys : List ℕ} {p : Part} (front : Front readFactor 2 xs p ys) where
-  pub product-done : factorNext ys ≡ false → Answers readProduct 3 xs (Found p)
-  unfolding readProduct
-  product-done t = answers (λ k h. rw (← found front k (omega arith), ← front .behind, t)) (front .answers .within)
+abbrev pub products : Series
+products = record { next = factorNext; gap = 1; some = omega arith; room = factor-room; part = readFactor; read = readProduct; rank = 2; step = product-step }
 
-  pub product-more : {zs : List ℕ} {r : Read} → factorNext ys ≡ true → zs ≡ drop 1 ys → Answers readProduct 3 zs r → Answers readProduct 3 xs (joined p 1 r)
-  unfolding readProduct
-  product-more {zs} {r} t f next = let s = split front 1 (factor-room ys t) f in
-      answers (λ k h. rw (← found front k (omega arith), ← front .behind, t, ← f, ← next .exact k (omega arith))) (joined-within r s (next .within))
+module _ (σ : Series) {xs : List ℕ} where
+  pub series-nothing : Answers (σ .part) (σ .rank) xs Nothing → Answers (σ .read) (suc (σ .rank)) xs Nothing
+  series-nothing a = answers (λ k h. sym (σ .step k xs ∙ rw (← a .exact k (omega arith)))) (omega arith)
+
+  module _ {ys : List ℕ} {p : Part} (front : Front (σ .part) (σ .rank) xs p ys) where
+    pub series-done : σ .next ys ≡ false → Answers (σ .read) (suc (σ .rank)) xs (Found p)
+    series-done t = answers (λ k h. sym (σ .step k xs ∙ rw (← found front k (omega arith), ← front .behind, t))) (front .answers .within)
+
+    pub series-more : {zs : List ℕ} {r : Read} → σ .next ys ≡ true → zs ≡ drop (σ .gap) ys → Answers (σ .read) (suc (σ .rank)) zs r → Answers (σ .read) (suc (σ .rank)) xs (joined p (σ .gap) r)
+    series-more {zs} {r} t f next =
+        let s = split front (σ .gap) (σ .room ys t) f in
+        let g = σ .some in
+        answers (λ k h. sym (σ .step k xs ∙ rw (← found front k (omega arith), ← front .behind, t, ← f, ← next .exact k (omega arith)))) (joined-within r s (next .within))
 
 -- a sum in parentheses is no lone atom
 abbrev loneOf : Read → Bool

@@ -5,8 +5,8 @@ use Prim.Native.Nat.{ℕ, suc}
 use lib.Dec.{eqb, ltb}
 use lib.ListN.{length, getD, take}
 use Rattle.spec.specs.Symbols.{is, letter, digit, alnum, all}
+use Rattle.spec.specs.Finish.{oneOf}
 use Rattle.spec.specs.Grammar.{greekNames}
-use Rattle.rows.specs.Named.{isNamed}
 
 -- the symbol at i, and 0 past the end
 abbrev pub at : List ℕ → ℕ → ℕ
@@ -30,7 +30,7 @@ abbrev pub isVariable : List ℕ → Bool
 isVariable xs = letter (at xs 0) && eqb (length xs) 1
 
 abbrev pub isAtom : List ℕ → Bool
-isAtom xs = isNumber xs || (isVariable xs || isNamed greekNames xs)
+isAtom xs = isNumber xs || (isVariable xs || oneOf greekNames xs)
 
 -- the length of the atom that comes next, or 0: it is all of a run of letters and digits
 abbrev pub atomLength : List ℕ → ℕ

@@ -10,7 +10,7 @@ use borrow.Author.Tests.{not-true, not-false}
 use Rattle.spec.specs.Symbols.{bytes, alnum}
 use Rattle.spec.specs.Grammar.{Atom, Sum, product, Product, factor, beside, Factor, scripted, fraction, group, Operand, atom, enclosed, Script, bare, symbol, inner, slashless, slashlessProduct, slashlessFactor, slashlessOperand, slashlessScript, scriptless, scriptlessProduct, scriptlessFactor, scriptlessOperand, isBare, loneAtom, loneProduct, loneFactor, proper, properProduct, properFactor, properOperand, atomText, text, productText, factorText, operandText, scriptText, atoms, productAtoms, factorAtoms, operandAtoms, scriptAtoms}
 use Rattle.spec.specs.Grammar
-use Rattle.spec.specs.Laws.Booleans.{and-left, and-right, and-both, or-neither-left, or-neither-right}
+use Rattle.spec.specs.Laws.Booleans.{and-left, and-right, and-both, or-neither}
 use Rattle.plain.specs.declared.Part.{Part}
 use Rattle.plain.specs.Parts.{leaf, join, over, withScripts, wrap, asScript, barred}
 
@@ -166,7 +166,6 @@ module _ (n d : Operand) where
 
   pub unbarred-proper : barred (operandPart n) (operandPart d) ≡ false → inside n ≡ true → inside d ≡ true → properFactor (fraction n d) ≡ true
   unbarred-proper e i j =
-      let first = or-neither-left (not (slashlessOperand n) || wrappedOperand n) (wrappedOperand d) e in
-      and-both (not-false (slashlessOperand n) (or-neither-left (not (slashlessOperand n)) (wrappedOperand n) first))
-      (and-both (operand-proper n (or-neither-right (not (slashlessOperand n)) (wrappedOperand n) first) i)
-      (operand-proper d (or-neither-right (not (slashlessOperand n) || wrappedOperand n) (wrappedOperand d) e) j))
+      let both = or-neither (not (slashlessOperand n) || wrappedOperand n) (wrappedOperand d) e in
+      let first = or-neither (not (slashlessOperand n)) (wrappedOperand n) (both .0) in
+      and-both (not-false (slashlessOperand n) (first .0)) (and-both (operand-proper n (first .1) i) (operand-proper d (both .1) j))

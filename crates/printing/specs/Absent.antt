@@ -6,10 +6,12 @@ use mathlib.Core.Path.{_≡_, refl, sym}
 use mathlib.Core.Bool.{Bool, true, false, not, _||_, true≢false, cond}
 use mathlib.Core.List.{List, [], _∷_}
 use Prim.Native.Nat.{ℕ}
-use Rattle.spec.specs.Symbols.{alnum, head, past, all}
+use borrow.Author.Tests.{not-true}
+use mathlib.Core.Option.{none}
+use Rattle.spec.specs.Symbols.{alnum, head, past, all, find}
+use Rattle.spec.specs.Laws.Booleans.{or-split}
 use Rattle.printing.specs.Tree.{Tree, typst, markedStyle, final, write, text}
-use Rattle.printing.specs.Classes.{not-true, or-split}
-use Rattle.printing.specs.Local.{pairs, chain-pairs, absent, pairs-absent}
+use Rattle.printing.specs.Local.{pairs, chain-pairs, pairs-absent}
 use Rattle.printing.specs.Rule.{signRule, wordRule, rule}
 use Rattle.printing.specs.LocalTree.{typed-rule, marked-rule}
 use Rattle.printing.specs.Alphabet.{plainSymbol, absent-foreign}
@@ -35,21 +37,21 @@ strange w = not (all plainSymbol w)
 abbrev pub stopped : List ℕ → Bool
 stopped w = strange w || broken w
 
-absent-if : (w : List ℕ) → broken w ≡ true → (b : ℕ) (s : List ℕ) → pairs pairRule b s ≡ true → absent w s ≡ true
+absent-if : (w : List ℕ) → broken w ≡ true → (b : ℕ) (s : List ℕ) → pairs pairRule b s ≡ true → find w s ≡ none
 absent-if [] h b s k = absurd (true≢false (sym h))
 absent-if (x ∷ w) h b s k = pairs-absent pairRule x w (not-true (pairs pairRule x w) h) b s k
 
 -- ---- the formula as typed, any text between the Greek names and the sizing, and the end
-pub absent-typed : (w : List ℕ) → stopped w ≡ true → (t : Tree) → absent w (text t) ≡ true
+pub absent-typed : (w : List ℕ) → stopped w ≡ true → (t : Tree) → find w (text t) ≡ none
 absent-typed w h t =
     or-split (strange w) (broken w) h (λ p. absent-foreign w (not-true (all plainSymbol w) p) typst 0 t)
     (λ p. absent-if w p 0 (text t) (chain-pairs (rule false) pairRule (rule-pair false) 0 0 (text t) (typed-rule t)))
 
-pub absent-marked : (w : List ℕ) → stopped w ≡ true → (below above : Bool) (n : ℕ) (t : Tree) → absent w (write (markedStyle below above) n t) ≡ true
+pub absent-marked : (w : List ℕ) → stopped w ≡ true → (below above : Bool) (n : ℕ) (t : Tree) → find w (write (markedStyle below above) n t) ≡ none
 absent-marked w h below above n t =
     let s : List ℕ = write (markedStyle below above) n t in
     or-split (strange w) (broken w) h (λ p. absent-foreign w (not-true (all plainSymbol w) p) (markedStyle below above) n t)
     (λ p. absent-if w p 0 s (chain-pairs (rule true) pairRule (rule-pair true) 0 0 s (marked-rule below above n t)))
 
-pub absent-final : (w : List ℕ) → strange w ≡ true → (n : ℕ) (t : Tree) → absent w (write final n t) ≡ true
+pub absent-final : (w : List ℕ) → strange w ≡ true → (n : ℕ) (t : Tree) → find w (write final n t) ≡ none
 absent-final w h n t = absent-foreign w (not-true (all plainSymbol w) h) final n t

@@ -1,19 +1,23 @@
 -- The symbols of a tree's text at every stage, and its last one.
 use mathlib.Core.Path.{_≡_, refl, sym, ap, _∙_}
-use mathlib.Core.Bool.{Bool, true, false, not, _&&_, _||_, true≢false, cond}
+use mathlib.Core.Bool.{Bool, true, false, not, _&&_, _||_, true≢false, cond, and-false}
 use mathlib.Core.List.{List, [], _∷_, _++_, reverseAux}
 use Prim.Native.Nat.{ℕ, zero, suc, _≤_}
 use Prim.Native.Char.{code}
-use lib.Dec.{eqb, ltb, ltb→lt, eqb→eq, leb, leb→le, le→leb}
+use lib.Dec.{eqb, ltb, leb}
 use lib.ListN.{length}
-use Rattle.spec.specs.Symbols.{bytes, digit, alnum, all, starts, ends, between, letter, foreign, any}
+use Rattle.spec.specs.Symbols.{bytes, digit, alnum, all, starts, ends, between, letter, foreign, any, find}
 use Rattle.spec.specs.Grammar.{Atom, variable, greek, number, greekNames, greekName}
+use Rattle.spec.specs.Laws.Booleans.{and-left, and-right, and-both, or-split, untrue}
+use Rattle.spec.specs.Laws.Names.{row-rule}
+use Rattle.spec.specs.Laws.Symbols.{find-past}
 use Rattle.printing.specs.Tree.{Tree, Script, Style, Join, beside, plus, minus, atom, fraction, group, row, bare, symbol, inner, atomText, joinText, operand, lone, slashless, parens, scriptGroup, unsized, write, writeScript}
-use Rattle.printing.specs.Classes.{holds, fails, T-true, apart, and-left, and-right, and-intro, and-false, all-weaken, all-append, row-rule, anyOf, any-all, or-split}
-use Rattle.printing.specs.Local.{absent}
+use Rattle.printing.specs.Classes.{apart, all-weaken, all-append, anyOf, any-all}
 use Rattle.printing.specs.Rule.{closed, last}
 use Rattle.printing.specs.Unlatex.{letter-alnum, digit-alnum, greek-alnum}
 use native.Mathlib.Omega.{arith}
+use borrow.Author.Tests.{eqb-true, ltb-true, leb-true, le-leb}
+use mathlib.Core.Option.{none}
 
 abbrev pub plainSymbol : ℕ → Bool
 plainSymbol x = alnum x || anyOf (bytes " +-/()_^{}\\") x
@@ -86,9 +90,9 @@ printable x = between (code " ") (code "~") x
 
 wider : (a b x : ℕ) → code " " ≤ a → b ≤ code "~" → between a b x ≡ true → printable x ≡ true
 wider a b x p q h =
-    let low : a ≤ x = leb→le a x (holds (leb a x) (and-left (leb a x) (leb x b) h)) in
-    let high : x ≤ b = leb→le x b (holds (leb x b) (and-right (leb a x) (leb x b) h)) in
-    and-intro (leb (code " ") x) (leb x (code "~")) (T-true _ (le→leb (code " ") x (omega arith))) (T-true _ (le→leb x (code "~") (omega arith)))
+    let low : a ≤ x = leb-true a x (and-left (leb a x) (leb x b) h) in
+    let high : x ≤ b = leb-true x b (and-right (leb a x) (leb x b) h) in
+    and-both (le-leb (code " ") x (omega arith)) (le-leb x (code "~") (omega arith))
 
 plain-printable : (x : ℕ) → plainSymbol x ≡ true → printable x ≡ true
 plain-printable x h =
@@ -107,18 +111,17 @@ starts-all : (f : ℕ → Bool) (w s : List ℕ) → all f s ≡ true → starts
 starts-all f [] s h e = refl
 starts-all f (k ∷ w) [] h e = absurd (true≢false (sym e))
 starts-all f (k ∷ w) (x ∷ s) h e =
-    let equal : x ≡ k = eqb→eq x k (holds (eqb x k) (and-right (starts w s) (eqb x k) e)) in
-    and-intro (f k) (all f w) (rw equal at (and-left (f x) (all f s) h)) (starts-all f w s (and-right (f x) (all f s) h) (and-left (starts w s) (eqb x k) e))
+    let equal : x ≡ k = eqb-true x k (and-right (starts w s) (eqb x k) e) in
+    and-both (rw equal at (and-left (f x) (all f s) h)) (starts-all f w s (and-right (f x) (all f s) h) (and-left (starts w s) (eqb x k) e))
 
-strange-absent : (w : List ℕ) → all plainSymbol w ≡ false → (s : List ℕ) → all plainSymbol s ≡ true → absent w s ≡ true
+strange-absent : (w : List ℕ) → all plainSymbol w ≡ false → (s : List ℕ) → all plainSymbol s ≡ true → find w s ≡ none
+unfolding find
 strange-absent w h [] k = refl
 strange-absent w h (x ∷ s) k =
-    and-intro (not (starts w (x ∷ s))) (absent w s)
-    (ap not (fails (starts w (x ∷ s)) (λ t. true≢false (sym (starts-all plainSymbol w (x ∷ s) k (T-true (starts w (x ∷ s)) t)) ∙ h))))
-    (strange-absent w h s (and-right (plainSymbol x) (all plainSymbol s) k))
+    find-past w x s (untrue (starts w (x ∷ s)) (λ t. true≢false (sym (starts-all plainSymbol w (x ∷ s) k t) ∙ h)))
+    ∙ strange-absent w h s (and-right (plainSymbol x) (all plainSymbol s) k)
 
--- as `%`, `&`, `"`, `\;` and a newline, at any stage
-pub absent-foreign : (w : List ℕ) → all plainSymbol w ≡ false → (s : Style) (n : ℕ) (t : Tree) → absent w (write s n t) ≡ true
+pub absent-foreign : (w : List ℕ) → all plainSymbol w ≡ false → (s : Style) (n : ℕ) (t : Tree) → find w (write s n t) ≡ none
 absent-foreign w h s n t = strange-absent w h (write s n t) (all-plain s n t)
 
 -- ---- the last symbol is a letter, a digit or a closing bracket
@@ -152,12 +155,12 @@ words-end [] h b e = rw e
 words-end (x ∷ s) h b e = words-end s (and-right (alnum x) (all alnum s) h) x (and-left (alnum x) (all alnum s) h)
 
 words-ends : (s : List ℕ) → all alnum s ≡ true → ltb 0 (length s) ≡ true → Ends s
-words-ends [] h n = absurd (holds (ltb 0 0) n)
+words-ends [] h n = absurd (true≢false (sym n))
 words-ends (x ∷ s) h n = record { ends-closed = λ b. words-end s (and-right (alnum x) (all alnum s) h) x (and-left (alnum x) (all alnum s) h) }
 
 greek-long : (i : ℕ) → ltb i 30 ≡ true → ltb 0 (length (greekName i)) ≡ true
 unfolding greekName
-greek-long i e = row-rule (λ w. ltb 0 (length w)) greekNames refl i (ltb→lt i 30 (holds (ltb i 30) e))
+greek-long i e = row-rule (λ w. ltb 0 (length w)) greekNames refl i (ltb-true i 30 e)
 
 atom-ends : (k : ℕ) (a : Atom) → Ends (atomText k a)
 atom-ends k (variable c e) = words-ends (c ∷ []) (rw (letter-alnum c e)) refl

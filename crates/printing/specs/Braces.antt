@@ -1,18 +1,20 @@
 -- Set braces and long scripts on a marked text: every brace of it groups, and every script without braces is one symbol.
 use mathlib.Core.Path.{_≡_, refl, sym, ap, _∙_}
-use mathlib.Core.Bool.{Bool, true, false, not, cond, _&&_, true≢false}
+use mathlib.Core.Bool.{Bool, true, false, not, cond, _&&_, true≢false, Bool·not-not}
 use mathlib.Core.List.{List, [], _∷_, _++_}
 use Prim.Native.Nat.{ℕ, suc, _-_}
 use Prim.Native.Char.{code}
 use native.Mathlib.Omega.{arith}
-use lib.Dec.{eqb, ltb, eqb→eq}
+use lib.Dec.{eqb, ltb}
 use lib.ListN.{length, take}
+use borrow.Author.Tests.{eqb-true}
 use Rattle.spec.specs.Symbols.{bytes, alnum, scriptSign, until, dropWhile}
 use Rattle.spec.specs.Sweep.{kept}
 use Rattle.spec.specs.Scripts.{wrapMultichar, wrapMulticharScripts}
 use Rattle.spec.specs.Finish.{groupsBehind, top, popped, escapeBraces, escapeSetBraces}
+use Rattle.spec.specs.Laws.Booleans.{and-left, and-right}
 use Rattle.printing.specs.Tree.{Tree, markedStyle, write}
-use Rattle.printing.specs.Classes.{holds, and-left, and-right, anyOf, any-all}
+use Rattle.printing.specs.Classes.{anyOf, any-all}
 use Rattle.printing.specs.Local.{chain}
 use Rattle.printing.specs.Rule.{wordRule, rule}
 use Rattle.printing.specs.LocalTree.{marked-rule}
@@ -23,13 +25,9 @@ abbrev allTrue : List Bool → Bool
 allTrue [] = true
 allTrue (b ∷ bs) = b && allTrue bs
 
-not-not : (b : Bool) → not (not b) ≡ true → b ≡ true
-not-not true e = refl
-not-not false e = e
-
 -- an opening brace stands where one groups
 brace-groups : (a prev : ℕ) → rule true a prev (code "{") ≡ true → groupsBehind prev ≡ true
-brace-groups a prev h = any-all groupsBehind (bytes "_^}c") prev refl (not-not (anyOf (bytes "_^}c") prev) (and-left (not (not (anyOf (bytes "_^}c") prev))) _ h))
+brace-groups a prev h = any-all groupsBehind (bytes "_^}c") prev refl (sym (Bool·not-not (anyOf (bytes "_^}c") prev)) ∙ and-left (not (not (anyOf (bytes "_^}c") prev))) _ h)
 
 one-of-three : (p q : Bool) (x y z t : List ℕ) → (p ≡ true → x ≡ t) → (q ≡ true → y ≡ t) → z ≡ t
     → elim p as (λ p. List ℕ) [ true ↦ x | false ↦ elim q as (λ q. List ℕ) [ true ↦ y | false ↦ z ] ] ≡ t
@@ -53,7 +51,7 @@ braces-copy bs h a prev (x ∷ s) k =
     let here : rule true a prev x ≡ true = and-left (rule true a prev x) (chain (rule true) prev x s) k in
     one-of-three (eqb x (code "{")) (eqb x (code "}")) _ _ _ (x ∷ s)
     (λ e.
-    let group : groupsBehind prev ≡ true = brace-groups a prev (rw (eqb→eq x (code "{") (holds (eqb x (code "{")) e)) at here) in
+    let group : groupsBehind prev ≡ true = brace-groups a prev (rw (eqb-true x (code "{") e) at here) in
     rw group (ap {B = List ℕ} (λ l. x ∷ l) (braces-copy (true ∷ bs) h prev x s later)))
     (λ e. rw (top-true bs h) (ap {B = List ℕ} (λ l. x ∷ l) (braces-copy (popped bs) (popped-true bs h) prev x s later)))
     (ap {B = List ℕ} (λ l. x ∷ l) (braces-copy bs h prev x s later))
@@ -102,7 +100,7 @@ module _ (m : ℕ) (hm : scriptSign m ≡ true) where
       later = and-right (rule true a before x) (chain (rule true) before x s) k
 
       short : (b : Bool) → eqb x m ≡ b → eqb x m && ltb 1 (length (ident s)) ≡ false
-      short true e = rw e (short-script x (ap scriptSign (eqb→eq x m (holds (eqb x m) e)) ∙ hm) before s later)
+      short true e = rw e (short-script x (ap scriptSign (eqb-true x m e) ∙ hm) before s later)
       short false e = rw e
 
 -- ---- the stages on a tree

@@ -11,6 +11,7 @@ use Prim.Native.Nat.{ℕ, _≤_}
 use lib.Dec.{ltb}
 use lib.ListN.{length, take, drop, replicate}
 use lib.Seq.{take-append-seam}
+use borrow.Author.Tests.{le-ltb}
 use Rattle.spec.specs.Symbols.{foreign, all, any}
 use Rattle.spec.specs.Result.{Result, passed, refused, mostSymbols}
 use Rattle.spec.specs.Table.{Definition, definitions, Rearranged, nothing, put, Order}
@@ -19,7 +20,6 @@ use Rattle.spec.specs.Pipeline.{typstToLatex, mostFormula, leastWork, definitio
 use Rattle.spec.specs.Grammar
 use Rattle.spec.specs.Grammar.{Plain}
 use Rattle.printing.specs.Tree.{typst}
-use Rattle.printing.specs.Classes.{not-below}
 use Rattle.printing.specs.Alphabet.{plainSymbol, all-plain, not-foreign}
 use Rattle.printing.specs.Yields.{Yields, yields-weaken, then-yields}
 use Rattle.printing.specs.TreeOf.{treeOf}
@@ -81,9 +81,9 @@ module _ {formula : List ℕ} (p : Plain formula) (table : List ℕ) (empty : No
       record {
         only = admitted-only formula table work;
         does = λ w. rw (
-          not-below (length work) leastWork (w .work-wide),
+          le-ltb (length work) leastWork (w .work-wide),
           admitted,
-          not-below mostFormula (length formula) (p .short),
+          le-ltb mostFormula (length formula) (p .short),
           not-foreign formula symbols-plain,
           empty,
         );
@@ -96,7 +96,7 @@ module _ {formula : List ℕ} (p : Plain formula) (table : List ℕ) (empty : No
 
   fitting-yields : Yields (Within p work output) (fitting output (latexOf p)) (latexOf p)
   fitting-yields =
-      record { only = only (ltb (length output) (length (latexOf p))); does = λ w. rw (not-below (length output) (length (latexOf p)) (w .output-long)) }
+      record { only = only (ltb (length output) (length (latexOf p))); does = λ w. rw (le-ltb (length output) (length (latexOf p)) (w .output-long)) }
     where
       only : (b : Bool) (x : List ℕ) → cond b (refused 10) (passed (latexOf p)) ≡ passed x → x ≡ latexOf p
       only true x e = cc

@@ -1,23 +1,26 @@
 -- The thirty passes that put a backslash before Greek names, one for each row of the table.
 use mathlib.Core.Path.{_≡_, refl, sym, ap, _∙_}
-use mathlib.Core.Bool.{Bool, true, false, not, _&&_, _||_, true≢false, cond}
+use mathlib.Core.Bool.{Bool, true, false, not, _&&_, _||_, true≢false, cond, and-false}
 use mathlib.Core.List.{List, [], _∷_, _++_, append-nil, append-assoc}
 use Prim.Native.Nat.{ℕ, zero, suc, _+_, _≤_, _<_}
 use Prim.Native.Char.{code}
 use native.Mathlib.Omega.{arith}
 use native.Mathlib.Nat.{not-suc-le-zero, le-of-suc-le-suc, add-zero, zero-add}
-use lib.Dec.{eqb, ltb, ltb→lt}
+use lib.Dec.{eqb, ltb}
 use lib.ListN.{length, drop, getD}
+use borrow.Author.Tests.{ltb-true}
 use Rattle.spec.specs.Symbols.{bytes, letter, digit, all, starts, head, same}
 use Rattle.spec.specs.Sweep.{sweep}
 use Rattle.spec.specs.Rows.{Row, greekLetters}
 use Rattle.spec.specs.Words.{embedded, greek as greekRule}
 use Rattle.spec.specs.Grammar.{Atom, variable, greek, number, greekNames, greekName}
+use Rattle.spec.specs.Laws.Booleans.{and-left, and-right}
+use Rattle.spec.specs.Laws.Symbols.{starts-long}
+use Rattle.spec.specs.Laws.Names.{same-eq}
 use Rattle.printing.specs.Tree.{Tree, Script, Join, beside, plus, minus, atom, fraction, group, row, bare, symbol, inner, atomText, joinText, operand, lone, slashed, typed, write, writeScript}
-use Rattle.printing.specs.Classes.{holds, apart, and-left, and-right, and-false}
+use Rattle.printing.specs.Classes.{apart}
 use Rattle.printing.specs.Rule.{Before, nothing, space, slash, paren, brace, last, Marker, low, high}
 use Rattle.printing.specs.LocalTree.{digit-not-letter}
-use Rattle.printing.specs.Settle.{same-eq}
 
 -- ---- rules for the rows of a table, by their places
 module _ {A : Type 0} (f : ℕ → A → Bool) where
@@ -64,13 +67,6 @@ behind [] [] r h e = e
 behind [] (x ∷ s) r h e = refl
 behind (k ∷ w) [] r h e = absurd (true≢false (sym h))
 behind (k ∷ w) (x ∷ s) r h e = behind w s r (and-left (starts w s) (eqb x k) h) e
-
-starts-short : (w s : List ℕ) → starts w s ≡ true → length w ≤ length s
-starts-short [] s h = omega arith
-starts-short (k ∷ w) [] h = absurd (true≢false (sym h))
-starts-short (k ∷ w) (x ∷ s) h =
-    let shorter : length w ≤ length s = starts-short w s (and-left (starts w s) (eqb x k) h) in
-    omega arith
 
 marker-sign : {m : ℕ} → Marker m → letter m ≡ false
 marker-sign low = refl
@@ -123,7 +119,7 @@ module _ (x₀ x₁ : ℕ) (v command : List ℕ) (letters : all letter (x₀ �
       go true f ih ih₀ =
           let found : starts name (x ∷ (u ++ r)) ≡ true = starts-append name letters (x ∷ u) r e ∙ f in
           let alike : embedded name prev (x ∷ (u ++ r)) ≡ embedded name prev (x ∷ u) = ap (λ b. eqb prev (code "\\") || (letter prev || b)) (behind name (x ∷ u) r f e) in
-          let room : suc (length v) ≤ length u = le-of-suc-le-suc (starts-short name (x ∷ u) f) in
+          let room : suc (length v) ≤ length u = le-of-suc-le-suc (starts-long name (x ∷ u) f) in
           let written : List ℕ = cond (embedded name prev (x ∷ u)) name command in
           found-step prev x (u ++ r) found
           ∙ rw (alike, ih room r e) (sym (append-assoc written (marking (suc (length v)) x u) (marking 0 (last x u) r)))
@@ -247,7 +243,7 @@ module _ (k x₀ x₁ : ℕ) (v command : List ℕ) (letters : all letter (x₀ 
   unfolding greekName
   greek-factor i e =
       let tested : marksRow (entry x₀ x₁ v command letters) k i (greekName i) ≡ true =
-      rw add-zero at (row-rule-at (marksRow (entry x₀ x₁ v command letters) k) 0 greekNames rows i (ltb→lt i 30 (holds (ltb i 30) e))) in
+      rw add-zero at (row-rule-at (marksRow (entry x₀ x₁ v command letters) k) 0 greekNames rows i (ltb-true i 30 e)) in
       alone x₀ x₁ v command letters (lead k i ++ greekName i) (lead (suc k) i ++ greekName i) (same-eq _ _ tested)
 
   atom-factor : (a : Atom) → Marked (atomText k a) (atomText (suc k) a)

@@ -1,18 +1,21 @@
 -- The rule that every tree's text keeps before sizing.
 use mathlib.Core.Path.{_≡_, refl, ap, _∙_}
-use mathlib.Core.Bool.{Bool, true, false, not, _&&_, _||_, cond}
+use mathlib.Core.Bool.{Bool, true, false, not, _&&_, cond, false≢true}
 use mathlib.Core.List.{List, [], _∷_, _++_, append-nil, append-assoc}
-use mathlib.Core.Logic.{_⊎_, inl, inr}
-use Prim.Native.Nat.{ℕ, zero, suc, _≤_}
+use Prim.Native.Nat.{ℕ, zero, suc}
 use Prim.Native.Char.{code}
 use native.Mathlib.Omega.{arith}
-use lib.Dec.{leb, ltb, ltb→lt, leb→le}
+use lib.Dec.{leb, ltb}
 use lib.ListN.{length}
+use borrow.Author.Tests.{ltb-true, leb-true, le-ltb}
 use Rattle.spec.specs.Symbols.{bytes, between, letter, digit, alnum, scriptSign, all}
 use Rattle.spec.specs.Fractions.{frac}
 use Rattle.spec.specs.Grammar.{Atom, variable, greek, number, greekNames, greekName}
+use Rattle.spec.specs.Laws.Booleans.{and-left, and-right, and-both, or-right, untrue, or-split}
+use Rattle.spec.specs.Laws.Names.{allRows, row-rule}
+use Rattle.spec.specs.Laws.Symbols.{digit-range}
 use Rattle.printing.specs.Tree.{Tree, Script, Style, Join, beside, plus, minus, atom, fraction, group, row, bare, symbol, inner, atomText, joinText, operand, slashed, lone, typst, markedStyle, unsized, write, writeScript, scriptGroup, text}
-use Rattle.printing.specs.Classes.{holds, not-below, fails, T-true, apart, and-left, and-right, and-intro, or-right, allRows, row-rule}
+use Rattle.printing.specs.Classes.{apart}
 use Rattle.printing.specs.Local.{chain}
 use Rattle.printing.specs.Rule.{rule, Before, nothing, space, slash, paren, brace, closed, last, Marker, low, high}
 
@@ -21,20 +24,11 @@ alnum-closed x h = rw h
 
 pub digit-not-letter : (x : ℕ) → digit x ≡ true → letter x ≡ false
 digit-not-letter x h =
-    fails (letter x) (λ t. elim (or-cases (between (code "a") (code "z") x) (between (code "A") (code "Z") x) (T-true (letter x) t)) [
-      | inl e ↦ omega (arith, low-bound (code "a") (code "z") x e, high-bound (code "0") (code "9") x h)
-      | inr e ↦ omega (arith, low-bound (code "A") (code "Z") x e, high-bound (code "0") (code "9") x h)
-    ])
-  where
-    low-bound : (a b x : ℕ) → between a b x ≡ true → a ≤ x
-    low-bound a b x e = leb→le a x (holds (leb a x) (and-left (leb a x) (leb x b) e))
-
-    high-bound : (a b x : ℕ) → between a b x ≡ true → x ≤ b
-    high-bound a b x e = leb→le x b (holds (leb x b) (and-right (leb a x) (leb x b) e))
-
-    or-cases : (p q : Bool) → p || q ≡ true → (p ≡ true) ⊎ (q ≡ true)
-    or-cases true q e = inl refl
-    or-cases false q e = inr e
+    let high = digit-range x h .1 in
+    untrue (letter x)
+    (λ t. or-split (between (code "a") (code "z") x) (between (code "A") (code "Z") x) t
+    (λ e. let low = leb-true (code "a") x (and-left (leb (code "a") x) (leb x (code "z")) e) in omega arith)
+    (λ e. let low = leb-true (code "A") x (and-left (leb (code "A") x) (leb x (code "Z")) e) in omega arith))
 
 digit-unmarked : (x : ℕ) → digit x ≡ true → scriptSign x ≡ false
 digit-unmarked x h = rw (apart digit x (code "_") h refl, apart digit x (code "^") h refl)
@@ -53,20 +47,20 @@ module _ (marked : Bool) where
 
   -- a sign behind a closed factor, and the text behind the sign
   follows-space : (r : List ℕ) → ((a : ℕ) → chain (rule marked) a (code " ") r ≡ true) → Follows marked (code " " ∷ r)
-  follows-space r h a b e = and-intro _ _ (ap not (apart closed b (code "\\") e refl)) (h b)
+  follows-space r h a b e = and-both (ap not (apart closed b (code "\\") e refl)) (h b)
 
   follows-slash : (r : List ℕ) → ((a : ℕ) → chain (rule marked) a (code "/") r ≡ true) → Follows marked (code "/" ∷ r)
-  follows-slash r h a b e = and-intro _ _ (ap not (apart closed b (code "\\") e refl)) (h b)
+  follows-slash r h a b e = and-both (ap not (apart closed b (code "\\") e refl)) (h b)
 
   follows-paren : (r : List ℕ) → Follows marked r → Follows marked (code ")" ∷ r)
-  follows-paren r f a b e = and-intro _ _ (ap not (apart closed b (code "\\") e refl)) (f b (code ")") refl)
+  follows-paren r f a b e = and-both (ap not (apart closed b (code "\\") e refl)) (f b (code ")") refl)
 
   follows-brace : (r : List ℕ) → ((a : ℕ) → chain (rule marked) a (code "}") r ≡ true) → Follows marked (code "}" ∷ r)
-  follows-brace r h a b e = and-intro _ _ (ap not (apart closed b (code "\\") e refl)) (h b)
+  follows-brace r h a b e = and-both (ap not (apart closed b (code "\\") e refl)) (h b)
 
   follows-marker : {m : ℕ} → Marker m → (r : List ℕ) → ((a : ℕ) → chain (rule marked) a m r ≡ true) → Follows marked (m ∷ r)
-  follows-marker low r h a b e = and-intro _ _ (ap not (apart closed b (code "\\") e refl)) (h b)
-  follows-marker high r h a b e = and-intro _ _ (ap not (apart closed b (code "\\") e refl)) (h b)
+  follows-marker low r h a b e = and-both (ap not (apart closed b (code "\\") e refl)) (h b)
+  follows-marker high r h a b e = and-both (ap not (apart closed b (code "\\") e refl)) (h b)
 
   -- ---- words
   word-start : {b : ℕ} → Before b → (a c : ℕ) → alnum c ≡ true → rule marked a b c ≡ true
@@ -79,8 +73,7 @@ module _ (marked : Bool) where
   run-follows : (w : List ℕ) (a b : ℕ) → chain (rule marked) a b w ≡ true → closed (last b w) ≡ true → (r : List ℕ) → Follows marked r → chain (rule marked) a b (w ++ r) ≡ true
   run-follows [] a b h e r f = f a b e
   run-follows (c ∷ w) a b h e r f =
-      and-intro (rule marked a b c) (chain (rule marked) b c (w ++ r)) (and-left (rule marked a b c) (chain (rule marked) b c w) h)
-      (run-follows w b c (and-right (rule marked a b c) (chain (rule marked) b c w) h) e r f)
+      and-both (and-left (rule marked a b c) (chain (rule marked) b c w) h) (run-follows w b c (and-right (rule marked a b c) (chain (rule marked) b c w) h) e r f)
 
   -- what stands two symbols before a factor does not count
   before-any : {b : ℕ} → Before b → (a : ℕ) (w : List ℕ) → chain (rule marked) a b w ≡ chain (rule marked) 0 b w
@@ -101,7 +94,7 @@ module _ (marked : Bool) where
       let hd : digit d ≡ true = and-left (digit d) (all digit ds) h in
       let alnum-d : alnum d ≡ true = or-right (letter d) (digit d) hd in
       let alnum-b : alnum b ≡ true = or-right (letter b) (digit b) e in
-      and-intro (rule marked a b d) (chain (rule marked) b d (ds ++ r))
+      and-both {a = rule marked a b d}
       (rw (alnum-d, alnum-b, m, apart digit b (code "\\") e refl, digit-not-letter b e))
       (digits-follow ds (and-right (digit d) (all digit ds) h) b d (digit-unmarked b e) hd r f)
 
@@ -115,16 +108,15 @@ module _ (marked : Bool) where
   pub variable-passes : (c : ℕ) → letter c ≡ true → Passes marked (c ∷ [])
   variable-passes c e =
       let h : alnum c ≡ true = rw e in
-      record { pass = λ a b before r f. and-intro (rule marked a b c) (chain (rule marked) b c r) (word-start before a c h) (f b c (alnum-closed c h)) }
+      record { pass = λ a b before r f. and-both (word-start before a c h) (f b c (alnum-closed c h)) }
 
   pub number-passes : (ds : List ℕ) → all digit ds ≡ true → ltb 0 (length ds) ≡ true → Passes marked ds
-  number-passes [] h n = absurd (holds (ltb 0 0) n)
+  number-passes [] h n = absurd (false≢true n)
   number-passes (d ∷ ds) h n =
       let hd : digit d ≡ true = and-left (digit d) (all digit ds) h in
       record {
         pass = λ a b before r f.
-            and-intro (rule marked a b d) (chain (rule marked) b d (ds ++ r)) (word-start before a d (or-right (letter d) (digit d) hd))
-            (digits-follow ds (and-right (digit d) (all digit ds) h) b d (before-unmarked before) hd r f);
+            and-both (word-start before a d (or-right (letter d) (digit d) hd)) (digits-follow ds (and-right (digit d) (all digit ds) h) b d (before-unmarked before) hd r f);
       }
 
   -- ---- brackets
@@ -137,7 +129,7 @@ module _ (marked : Bool) where
 
   paren-passes : {w : List ℕ} → Passes marked w → Passes marked (code "(" ∷ (w ++ code ")" ∷ []))
   paren-passes {w} p =
-      record { pass = λ a b before r f. and-intro _ _ (opens-paren before a) (rw (append-assoc w (code ")" ∷ []) r) (p .pass b (code "(") paren (code ")" ∷ r) (follows-paren r f))) }
+      record { pass = λ a b before r f. and-both (opens-paren before a) (rw (append-assoc w (code ")" ∷ []) r) (p .pass b (code "(") paren (code ")" ∷ r) (follows-paren r f))) }
 
   operand-passes : (c : Bool) {w : List ℕ} → Passes marked w → Passes marked (operand c w)
   operand-passes true p = p
@@ -174,8 +166,8 @@ module _ (marked : Bool) where
 
   -- ---- scripts
   symbol-follows : {m : ℕ} → Marker m → (c : ℕ) → alnum c ≡ true → (r : List ℕ) → Follows marked r → (a : ℕ) → chain (rule marked) a m (c ∷ r) ≡ true
-  symbol-follows low c h r f a = and-intro (rule marked a (code "_") c) (chain (rule marked) (code "_") c r) (rw h) (f (code "_") c (alnum-closed c h))
-  symbol-follows high c h r f a = and-intro (rule marked a (code "^") c) (chain (rule marked) (code "^") c r) (rw h) (f (code "^") c (alnum-closed c h))
+  symbol-follows low c h r f a = and-both {a = rule marked a (code "_") c} (rw h) (f (code "_") c (alnum-closed c h))
+  symbol-follows high c h r f a = and-both {a = rule marked a (code "^") c} (rw h) (f (code "^") c (alnum-closed c h))
 
   group-follows : {m : ℕ} → Marker m → (c : Bool) {w : List ℕ} → Passes marked w → (r : List ℕ) → Follows marked r → (a : ℕ) → chain (rule marked) a m (scriptGroup c w ++ r) ≡ true
   group-follows low true p r f a = simp append-assoc (p .pass (code "_") (code "{") brace (code "}" ∷ r) (follows-brace r (λ a. f a (code "}") refl)))
@@ -222,7 +214,7 @@ greek-passes marked lead tests i e =
     record {
       pass = λ a b before r f.
           let w : List ℕ = lead ++ greekName i in
-          let h : fine marked b w ≡ true = row-rule (λ w. fine marked b (lead ++ w)) greekNames (tests b before) i (ltb→lt i 30 (holds (ltb i 30) e)) in
+          let h : fine marked b w ≡ true = row-rule (λ w. fine marked b (lead ++ w)) greekNames (tests b before) i (ltb-true i 30 e) in
           run-follows marked w a b (before-any marked before a w ∙ and-left (chain (rule marked) 0 b w) (closed (last b w)) h) (and-right (chain (rule marked) 0 b w) (closed (last b w)) h) r f;
     }
 
@@ -242,7 +234,7 @@ marked-rows b brace = refl
 
 typed-atom : (a : Atom) → Passes false (atomText 0 a)
 typed-atom (variable c e) = variable-passes false c e
-typed-atom (greek i e) = rw (not-below i 0 (omega arith), cond) (greek-passes false [] typed-rows i e)
+typed-atom (greek i e) = rw (le-ltb i 0 (omega arith), cond) (greek-passes false [] typed-rows i e)
 typed-atom (number ds e n) = number-passes false ds e (and-left (ltb 0 (length ds)) (ltb (length ds) 10) n)
 
 marked-atom : (a : Atom) → Passes true (atomText 30 a)

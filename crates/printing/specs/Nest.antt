@@ -5,7 +5,8 @@ use mathlib.Core.List.{List, [], _∷_, _++_, append-assoc, reverseAux, reverseA
 use Prim.Native.Nat.{ℕ}
 use Prim.Native.Char.{code}
 use Rattle.spec.specs.Symbols.{all}
-use Rattle.printing.specs.Classes.{noneOf, and-left, and-right}
+use Rattle.spec.specs.Laws.Booleans.{and-left, and-right}
+use Rattle.printing.specs.Classes.{noneOf}
 
 -- no parenthesis or brace
 abbrev pub calm : ℕ → Bool

@@ -1,20 +1,24 @@
 -- A fraction's operand, between what may stand before and behind it: both searches stop at its ends, and its parentheses come off.
 use mathlib.Core.Path.{_≡_, refl, sym, ap, _∙_}
-use mathlib.Core.Bool.{Bool, true, false, not, cond}
+use mathlib.Core.Bool.{Bool, true, false, not, cond, and-false, true≢false}
 use mathlib.Core.List.{List, [], _∷_, _++_, append-nil, append-assoc, reverse, reverseAux, reverseAux-eq, reverseAux-append, reverse-reverse}
 use mathlib.Core.Option.{some}
 use Prim.Native.Nat.{ℕ, suc, _-_}
 use Prim.Native.Char.{code}
 use native.Mathlib.Omega.{arith}
-use lib.Dec.{eqb, ltb, ltb→lt, eqb→eq}
+use lib.Dec.{eqb, ltb}
 use lib.ListN.{length, drop, length-append, length-reverse}
-use lib.Seq.{take-append-seam, drop-append-seam}
+use lib.Seq.{drop-append-seam}
+use borrow.Author.Tests.{ltb-true, not-true, ne-eqb}
 use Rattle.spec.specs.Symbols.{bytes, letter, digit, scriptSign, all, dropWhile, trimStart, trim, starts, ends, head, past, until}
 use Rattle.spec.specs.Closing.{neither, side, close, level}
 use Rattle.spec.specs.Fractions.{operandSymbol, innerOr, stripTrimmed, stripOuterParens, isInsideSubscriptContext, withName, nameBefore, wordBefore, findFractionPartBefore, factorials, power, wordAfter, afterLvert, braces, bracket, arguments, shorterThan, grouped, afterWord, afterBrackets, findFractionPartAfter, passesSolidus, barred}
 use Rattle.spec.specs.Grammar.{Atom, variable, greek, number, greekNames, greekName}
+use Rattle.spec.specs.Laws.Booleans.{and-left, and-right, and-both}
+use Rattle.spec.specs.Laws.Names.{row-rule}
+use Rattle.spec.specs.Laws.Symbols.{until-append}
 use Rattle.printing.specs.Tree.{atomText}
-use Rattle.printing.specs.Classes.{holds, fails, not-true, apart, and-left, and-right, and-intro, and-false, all-weaken, row-rule}
+use Rattle.printing.specs.Classes.{apart, all-weaken}
 use Rattle.printing.specs.Nest.{calm, Nest, through, back}
 use Rattle.printing.specs.Written.{letter-operandSymbol, digit-operandSymbol, greek-letters}
 
@@ -55,9 +59,6 @@ script-context-back = back isInsideSubscriptContext suc (λ d. d) (λ d x r h. r
 -- ---- parts of texts
 pub append-minus : (s r : List ℕ) → length (s ++ r) - length r ≡ length s
 append-minus s r = omega (arith, length-append s r)
-
-pub until-append : (s r : List ℕ) → until (s ++ r) r ≡ s
-until-append s r = rw (append-minus s r) (take-append-seam s r)
 
 pub onto-minus : (s p : List ℕ) → length (reverseAux s p) - length p ≡ length s
 onto-minus s p = omega (arith, ap length (reverseAux-eq s p), length-append (reverse s) p, length-reverse s)
@@ -188,14 +189,14 @@ arguments-at at-paren = refl
 arguments-at at-brace = refl
 
 shorter : (x : ℕ) (w r : List ℕ) → eqb (length r) (length (x ∷ (w ++ r))) ≡ false
-shorter x w r = fails (eqb (length r) (length (x ∷ (w ++ r)))) (λ t. omega (arith, eqb→eq (length r) (length (x ∷ (w ++ r))) t, length-append w r))
+shorter x w r = ne-eqb (length r) (length (x ∷ (w ++ r))) (λ e. omega (arith, length-append w r))
 
 after-atom : (x : ℕ) (w : List ℕ) → operandSymbol x ≡ true → all operandSymbol w ≡ true → ends (bytes "\\lvert") (x ∷ w) ≡ false
     → (r : List ℕ) → Stop r → findFractionPartAfter (x ∷ (w ++ r)) ≡ some r
 unfolding findFractionPartAfter
 after-atom x w hx h b r e =
     let s : List ℕ = x ∷ (w ++ r) in
-    let found : wordAfter 0 s ≡ r = after-word (x ∷ w) (and-intro (operandSymbol x) (all operandSymbol w) hx h) e 0 in
+    let found : wordAfter 0 s ≡ r = after-word (x ∷ w) (and-both hx h) e 0 in
     let no-bar : afterLvert (until s r) r ≡ r = rw (until-append (x ∷ w) r, b, afterLvert) in
     let plain : bracket (braces 0 (afterLvert (until s r) r)) ≡ r = rw no-bar (brackets-at e) in
     let some-left : shorterThan (length s) (some r) ≡ some r = rw (shorter x w r, shorterThan) in
@@ -207,7 +208,7 @@ atom-unbarred : (x : ℕ) (w : List ℕ) → operandSymbol x ≡ true → all op
 unfolding barred
 atom-unbarred x w hx h b r e =
     let s : List ℕ = x ∷ (w ++ r) in
-    let found : wordAfter 0 s ≡ r = after-word (x ∷ w) (and-intro (operandSymbol x) (all operandSymbol w) hx h) e 0 in
+    let found : wordAfter 0 s ≡ r = after-word (x ∷ w) (and-both hx h) e 0 in
     rw (apart operandSymbol x (code "(") hx refl) (ap (λ (q : List ℕ). passesSolidus (until s q) q) found ∙ rw (until-append (x ∷ w) r, b))
 
 atom-content : (x : ℕ) (w : List ℕ) → operandSymbol x ≡ true → all operandSymbol w ≡ true → stripOuterParens (x ∷ w) ≡ x ∷ w
@@ -230,7 +231,7 @@ atom-operand (word x w hx h b) =
 -- the atoms of a formula are words
 all-onto : (f : ℕ → Bool) (s t : List ℕ) → all f s ≡ true → all f t ≡ true → all f (reverseAux s t) ≡ true
 all-onto f [] t p q = q
-all-onto f (x ∷ s) t p q = all-onto f s (x ∷ t) (and-right (f x) (all f s) p) (and-intro (f x) (all f t) (and-left (f x) (all f s) p) q)
+all-onto f (x ∷ s) t p q = all-onto f s (x ∷ t) (and-right (f x) (all f s) p) (and-both (and-left (f x) (all f s) p) q)
 
 no-bar-end : (s : List ℕ) → all digit s ≡ true → starts (reverse (bytes "\\lvert")) s ≡ false
 no-bar-end [] h = refl
@@ -239,10 +240,10 @@ no-bar-end (x ∷ s) h = rw (apart digit x (code "t") (and-left (digit x) (all d
 greek-word : (i : ℕ) → ltb i 30 ≡ true → Word (code "\\" ∷ greekName i)
 unfolding greekName
 greek-word i e = word (code "\\") (greekName i) refl (all-weaken letter operandSymbol letter-operandSymbol (greekName i) (greek-letters i e))
-    (not-true (ends (bytes "\\lvert") (code "\\" ∷ greekName i)) (row-rule (λ w. not (ends (bytes "\\lvert") (code "\\" ∷ w))) greekNames refl i (ltb→lt i 30 (holds (ltb i 30) e))))
+    (not-true (ends (bytes "\\lvert") (code "\\" ∷ greekName i)) (row-rule (λ w. not (ends (bytes "\\lvert") (code "\\" ∷ w))) greekNames refl i (ltb-true i 30 e)))
 
 number-word : (ds : List ℕ) → all digit ds ≡ true → ltb 0 (length ds) ≡ true → Word ds
-number-word [] h e = absurd (holds (ltb 0 0) e)
+number-word [] h e = absurd (true≢false (sym e))
 number-word (d ∷ ds) h e =
     word d ds (digit-operandSymbol d (and-left (digit d) (all digit ds) h)) (all-weaken digit operandSymbol digit-operandSymbol ds (and-right (digit d) (all digit ds) h))
     (no-bar-end (reverse (d ∷ ds)) (all-onto digit (d ∷ ds) [] h refl))

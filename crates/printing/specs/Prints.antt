@@ -21,16 +21,16 @@ use Rattle.spec.specs.Scripts.{convertParenToBrace, wrapTextSubscripts, wrapMul
 use Rattle.spec.specs.Fractions.{mostRounds, convertFractions}
 use Rattle.spec.specs.Finish.{escapeSetBraces, lr, convertLr, sizeDelimitersToContent, escapePercent, convertAlignment, dropThinSpaceAfterCommands}
 use Rattle.spec.specs.Pipeline.{markSolidus, unmarkSolidus, convertSyntax, typstToLatex}
+use Rattle.spec.specs.Laws.Absent.{replace-absent, cases-absent, attach-absent, quotes-absent, thin-spaces-absent}
 use Rattle.printing.specs.Tree.{Tree, Plain, depth, typst, markedStyle, final, write, text, latex}
 use Rattle.printing.specs.Settle.{settle-only, settle-does}
 use Rattle.printing.specs.SizingTree.{size-plain}
 use Rattle.printing.specs.Alphabet.{all-plain, ends-plain}
-use Rattle.printing.specs.Sweeps.{replace-absent}
 use Rattle.printing.specs.Absent.{stopped, absent-typed, absent-marked, absent-final}
-use Rattle.printing.specs.CallsCopy.{calls-copy, binom-copies, cases-copy, attach-copies, text-quotes-copy, sqrt-copies, wrap-text-copies, lr-sweep-copies, lr-is-stage, alignment-copies, thin-spaces-copy}
+use Rattle.printing.specs.CallsCopy.{calls-copy, binom-copies, sqrt-copies, wrap-text-copies, lr-sweep-copies, lr-is-stage, alignment-copies}
 use Rattle.printing.specs.Braces.{set-braces-copy, multichar-scripts-copy}
 use Rattle.printing.specs.Scripts.{low-scripts, high-scripts}
-use Rattle.printing.specs.Blocks.{hold-texts-none, put-back-none}
+use Rattle.printing.specs.Blocks.{texts-nowhere, put-back-plain}
 use Rattle.printing.specs.Yields.{Yields, passed-yields, then-yields, stage-yields}
 use Rattle.printing.specs.Tables.{Fits, early-short, functions-yield, operators-yield, words-yield, capitals-yield}
 
@@ -85,18 +85,18 @@ module _ (t : Tree) (plain : Plain t) where
       (then-yields _ (stage convertCases)
       (then-yields _ (stage convertOp) (copies markSolidus (replace-absent (bytes "\\/") (solidus ∷ []) (text t) (absent-typed (bytes "\\/") refl t)))
       (call-copies (bytes "op(") _ refl))
-      (copies convertCases (cases-copy (text t) (absent-typed (bytes "cases(") refl t))))
-      (copies convertAttach (attach-copies (text t) (absent-typed (bytes "attach(") refl t))))
+      (copies convertCases (cases-absent (text t) (absent-typed (bytes "cases(") refl t))))
+      (copies convertAttach (attach-absent (text t) (absent-typed (bytes "attach(") refl t))))
       (call-copies (bytes "bb(") _ refl))
       (call-copies (bytes "bold(") _ refl))
       (copies convertBinom (binom-copies (text t) (absent-typed (bytes "binom(") refl t))))
       (call-copies (bytes "upright(") _ refl))
       floor-ceil-abs-yield)
-      (copies convertTextQuotes (text-quotes-copy (text t) (absent-typed (bytes "\"") refl t)))
+      (copies convertTextQuotes (quotes-absent (text t) (absent-typed (bytes "\"") refl t)))
 
   undefined : applyDefinitionsOutsideText [] (text t) ≡ passed (text t)
   unfolding applyDefinitionsOutsideText
-  undefined = ap putBack (hold-texts-none (text t) (absent-typed (bytes "\\text{") refl t)) ∙ put-back-none (text t) (all-plain typst 0 t)
+  undefined = ap putBack (texts-nowhere (text t) (absent-typed (bytes "\\text{") refl t)) ∙ put-back-plain (text t) (all-plain typst 0 t)
 
   definitions-yield : Goes (applyDefinitionsOutsideText [] (text t)) (text t)
   definitions-yield = rw undefined (passed-yields (text t))
@@ -179,4 +179,4 @@ module _ (t : Tree) (plain : Plain t) where
       (then-yields _ (convertSyntax true) (then-yields _ (applyDefinitionsOutsideText []) calls-yield definitions-yield) syntax-yields)
       (final-copies convertAlignment
       (alignment-copies (latex t) (absent-final (bytes "&") refl (depth t) t) (absent-final (bytes " \\\n") refl (depth t) t) (ends-plain final (depth t) t))))
-      (final-copies dropThinSpaceAfterCommands (thin-spaces-copy (latex t) (absent-final (bytes "\\;") refl (depth t) t)))
+      (final-copies dropThinSpaceAfterCommands (thin-spaces-absent (latex t) (absent-final (bytes "\\;") refl (depth t) t)))

@@ -11,11 +11,13 @@ use Rattle.spec.specs.Symbols.{trimStart, bytes, alnum, scriptSign, all, head}
 use Rattle.spec.specs.Closing.{side, neither}
 use Rattle.spec.specs.Fractions.{operandSymbol, isInsideSubscriptContext, scriptOpener, findFractionPartAfter, withDenominator, withNumerator, frac, slash, fractionsFrom, convertRegularFractions}
 use Rattle.spec.specs.Grammar.{Atom}
+use Rattle.spec.specs.Laws.Booleans.{and-left, and-right, and-both}
+use Rattle.spec.specs.Laws.Symbols.{until-append}
 use Rattle.printing.specs.Tree.{Tree, Script, Style, Join, beside, plus, minus, atom, fraction, group, row, bare, symbol, inner, atomText, joinText, operand, lone, slashless, slashlessScript, Plain, PlainScript, braced, unsized, write, writeScript}
-use Rattle.printing.specs.Classes.{apart, and-left, and-right, and-intro}
+use Rattle.printing.specs.Classes.{apart}
 use Rattle.printing.specs.Nest.{Nest}
 use Rattle.printing.specs.Written.{atom-operandSymbols, atom-nest, join-nest, nest, nest-script, operand-nest}
-use Rattle.printing.specs.Operand.{Edge, start, after-space, after-paren, after-brace, Stop, end, at-space, at-paren, at-brace, script-context-back, append-minus, until-append, until-onto, onto-minus, drop-onto, Operand, group-operand, atom-operand, atom-word, Word, word}
+use Rattle.printing.specs.Operand.{Edge, start, after-space, after-paren, after-brace, Stop, end, at-space, at-paren, at-brace, script-context-back, append-minus, until-onto, onto-minus, drop-onto, Operand, group-operand, atom-operand, atom-word, Word, word}
 
 -- ---- a run without a slash is copied, and skipped symbols are passed
 copy-one : (x : ℕ) → eqb x (code "/") ≡ false → (p o r : List ℕ) → fractionsFrom 0 p o (x ∷ r) ≡ fractionsFrom 0 (x ∷ p) (x ∷ o) r
@@ -77,7 +79,7 @@ as-operand true s m w = atom-operand (w refl)
 as-operand false s m w = group-operand s m
 
 word-operandSymbols : {w : List ℕ} → Word w → all operandSymbol w ≡ true
-word-operandSymbols (word x w hx h b) = and-intro (operandSymbol x) (all operandSymbol w) hx h
+word-operandSymbols (word x w hx h b) = and-both hx h
 
 -- a text that a round copies where it stands as a factor
 abbrev Copied : List ℕ → Type 0

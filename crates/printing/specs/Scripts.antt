@@ -1,21 +1,23 @@
 -- Script groups get braces: `_(`..`)` becomes `_{`..`}`, then the same for `^`.
 use mathlib.Core.Path.{_≡_, refl, sym, ap, _∙_}
-use mathlib.Core.Bool.{Bool, true, false, not, _&&_, true≢false}
+use mathlib.Core.Bool.{Bool, true, false, not, _&&_, true≢false, and-false}
 use mathlib.Core.List.{List, [], _∷_, _++_, append-nil, append-assoc}
 use mathlib.Core.Option.{some}
 use Prim.Native.Nat.{ℕ, zero, suc, pred, _+_, _-_}
 use Prim.Native.Char.{code}
 use native.Mathlib.Omega.{arith}
-use lib.Dec.{eqb, eqb-refl}
+use lib.Dec.{eqb}
 use lib.ListN.{length, length-append}
 use lib.Seq.{take-append-seam}
+use borrow.Author.Tests.{eq-eqb}
 use Rattle.spec.specs.Symbols.{bytes, alnum, scriptSign, all, inside, starts}
 use Rattle.spec.specs.Sweep.{Turn, sweep}
 use Rattle.spec.specs.Closing.{close}
 use Rattle.spec.specs.Words.{braced, parenToBrace}
 use Rattle.spec.specs.Scripts.{convertParenToBrace}
+use Rattle.spec.specs.Laws.Booleans.{and-left, and-right}
 use Rattle.printing.specs.Tree.{Tree, Script, Join, beside, plus, minus, atom, fraction, group, row, bare, symbol, inner, atomText, joinText, operand, lone, scriptGroup, scriptless, scriptlessScript, Plain, PlainScript, markedStyle, braced as bracedStyle, write, writeScript}
-use Rattle.printing.specs.Classes.{T-true, apart, and-left, and-right, and-false, all-weaken}
+use Rattle.printing.specs.Classes.{apart, all-weaken}
 use Rattle.printing.specs.Nest.{Nest}
 use Rattle.printing.specs.Written.{nest}
 use Rattle.printing.specs.Operand.{close-through}
@@ -114,7 +116,7 @@ module _ (m : ℕ) (hm : scriptSign m ≡ true) where
         rw (content, count)
 
     opens-group : parenToBrace (m ∷ bytes "(") (m ∷ bytes "{") 0 (m ∷ code "(" ∷ rest) ≡ record { more = length (bytes "(" ++ (s ++ bytes ")")); fresh = m ∷ bytes "{" ++ s ++ bytes "}" }
-    opens-group = rw (T-true (eqb m m) (eqb-refl m), parenToBrace) (ap (braced (m ∷ bytes "(") (m ∷ bytes "{") rest) closes-group ∙ turn-of-group)
+    opens-group = rw (eq-eqb m m refl, parenToBrace) (ap (braced (m ∷ bytes "(") (m ∷ bytes "{") rest) closes-group ∙ turn-of-group)
 
     converts-group : toBrace m (m ∷ code "(" ∷ rest) ≡ (m ∷ bytes "{" ++ s ++ bytes "}") ++ toBrace m r
     unfolding sweep

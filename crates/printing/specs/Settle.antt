@@ -1,32 +1,20 @@
 -- Rounds until nothing changes. That they stop only when every fraction is stacked follows from the round itself: no slash is counted.
 use mathlib.Core.Path.{_≡_, refl, sym, ap, _∙_}
-use mathlib.Core.Bool.{Bool, true, false, cond, true≢false}
-use mathlib.Core.List.{List, [], _∷_}
+use mathlib.Core.Bool.{Bool, true, false, cond}
+use mathlib.Core.List.{List, []}
 use mathlib.Core.Option.{Option, some}
 use Prim.Native.Nat.{ℕ, zero, suc, _+_, _≤_}
 use native.Mathlib.Nat.{zero-add, suc-add}
 use native.Mathlib.Omega.{arith}
-use lib.Dec.{eqb, ltb, eqb→eq, eqb-refl}
+use lib.Dec.{ltb}
 use lib.ListN.{length}
+use borrow.Author.Tests.{le-ltb}
 use Rattle.spec.specs.Symbols.{bytes, same}
 use Rattle.spec.specs.Result.{Result, passed, refused, mostSymbols}
 use Rattle.spec.specs.Fractions.{frac, convertRegularFractions, settle}
+use Rattle.spec.specs.Laws.Names.{same-eq, same-refl}
 use Rattle.printing.specs.Tree.{Tree, Script, Style, atom, fraction, group, row, bare, symbol, inner, depth, depthScript, Plain, braced, unsized, write, writeScript}
-use Rattle.printing.specs.Classes.{holds, T-true, and-left, and-right, and-intro, not-below}
 use Rattle.printing.specs.Round.{round-plain}
-
-pub same-eq : (s t : List ℕ) → same s t ≡ true → s ≡ t
-same-eq [] [] h = refl
-same-eq [] (y ∷ t) h = absurd (true≢false (sym h))
-same-eq (x ∷ s) [] h = absurd (true≢false (sym h))
-same-eq (x ∷ s) (y ∷ t) h =
-    let heads : x ≡ y = eqb→eq x y (holds (eqb x y) (and-left (eqb x y) (same s t) h)) in
-    let tails : s ≡ t = same-eq s t (and-right (eqb x y) (same s t) h) in
-    cc
-
-pub same-refl : (s : List ℕ) → same s s ≡ true
-same-refl [] = refl
-same-refl (x ∷ s) = and-intro (eqb x x) (same s s) (T-true (eqb x x) (eqb-refl x)) (same-refl s)
 
 -- ---- from its depth on a tree's text does not change
 mutual
@@ -111,7 +99,7 @@ module _ (t : Tree) (plain : Plain t) where
         last-round n ∙ rw (still, same-refl (write braced n t)) (ap passed (deep braced n (depth t) t (omega arith) (omega arith)))
     settle-does (suc k) n h =
         next-round k n
-        ∙ ap (going k n (same (write braced (suc n) t) (write braced n t))) (not-below mostSymbols (length (write braced (suc n) t)) (short (suc n)))
+        ∙ ap (going k n (same (write braced (suc n) t) (write braced n t))) (le-ltb mostSymbols (length (write braced (suc n) t)) (short (suc n)))
         ∙ go (same (write braced (suc n) t) (write braced n t)) refl (settle-does k (suc n) (omega arith))
       where
         go : (b : Bool) → same (write braced (suc n) t) (write braced n t) ≡ b → settle k (write braced (suc n) t) ≡ passed (write braced (depth t) t)

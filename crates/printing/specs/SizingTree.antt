@@ -1,6 +1,6 @@
 -- Sizing a stacked tree: a group with a fraction in it, outside scripts, gets \left and \right.
 use mathlib.Core.Path.{_≡_, refl, sym, ap, _∙_}
-use mathlib.Core.Bool.{Bool, true, false, not, _&&_, cond}
+use mathlib.Core.Bool.{Bool, true, false, not, cond}
 use mathlib.Core.List.{List, [], _∷_, _++_, append-nil, append-assoc, reverseAux, reverseAux-append}
 use mathlib.Core.Option.{Option, none, some}
 use Prim.Native.Nat.{ℕ, zero, suc, pred, _-_, _≤_}
@@ -9,16 +9,18 @@ use native.Mathlib.Omega.{arith}
 use lib.Dec.{eqb}
 use lib.ListN.{length, take, length-append}
 use lib.Seq.{take-append-seam}
-use Rattle.spec.specs.Symbols.{bytes, alnum, all, starts, until}
+use Rattle.spec.specs.Symbols.{bytes, alnum, all, until}
 use Rattle.spec.specs.Closing.{close}
 use Rattle.spec.specs.Finish.{tall, scriptGroup, closing, alreadySized, Group, tallGroup, leftRight, sizeStep, sizeWith, sizeDelimitersToContent}
 use Rattle.spec.specs.Grammar.{Atom}
+use Rattle.spec.specs.Laws.Booleans.{and-left, and-right}
+use Rattle.spec.specs.Laws.Symbols.{starts-unequal, until-append}
 use Rattle.printing.specs.Tree.{Tree, Script, Join, beside, plus, minus, atom, fraction, group, row, bare, symbol, inner, atomText, joinText, parens, slashless, depth, Plain, braced, final, write, writeScript}
-use Rattle.printing.specs.Classes.{apart, and-left, and-right, and-false, noneOf, excludes, all-weaken}
+use Rattle.printing.specs.Classes.{apart, noneOf, excludes, all-weaken}
 use Rattle.printing.specs.Unlatex.{bareSymbol, atom-bare, flat}
 use Rattle.printing.specs.Nest.{Nest, through}
 use Rattle.printing.specs.Written.{nest}
-use Rattle.printing.specs.Operand.{Edge, start, after-space, after-paren, after-brace, close-through, calm-side, until-append}
+use Rattle.printing.specs.Operand.{Edge, start, after-space, after-paren, after-brace, close-through, calm-side}
 use Rattle.printing.specs.Rule.{Marker, low, high}
 use Rattle.printing.specs.Tall.{tall-tree}
 use Rattle.printing.specs.Round.{join-edge, edge-unmarked}
@@ -77,11 +79,8 @@ run-sized (x ∷ w) h o (suc f) r e =
     }
 
 -- ---- groups
-differs : (k x : ℕ) (w s : List ℕ) → eqb x k ≡ false → starts (k ∷ w) (x ∷ s) ≡ false
-differs k x w s e = ap (λ b. starts w s && b) e ∙ and-false (starts w s)
-
 other-end : (x : ℕ) (o : List ℕ) → eqb x (code "t") ≡ false → alreadySized (x ∷ o) ≡ false
-other-end x o e = rw (differs (code "t") x (bytes "fel\\") o e, differs (code "t") x (bytes "hgir\\") o e)
+other-end x o e = rw (starts-unequal (code "t") x (bytes "fel\\") o e, starts-unequal (code "t") x (bytes "hgir\\") o e)
 
 not-sized : {o : List ℕ} → Edge o → alreadySized o ≡ false
 not-sized start = refl

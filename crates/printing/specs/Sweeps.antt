@@ -1,16 +1,14 @@
 -- Sweeps that leave a text as it is.
 --     sweep-copies    a rule that writes, at every place, the very symbols that it takes
 --     sweep-chain     the same, where it follows from a property of three symbols in a row
---     sweep-absent    a rule that acts only where a pattern stands, on a text without the pattern
 use mathlib.Core.Path.{_≡_, refl, ap, _∙_}
-use mathlib.Core.Bool.{Bool, true, false, not}
+use mathlib.Core.Bool.{Bool, true}
 use mathlib.Core.List.{List, [], _∷_, _++_}
 use Prim.Native.Nat.{ℕ, zero, suc}
 use lib.ListN.{length, take, drop, take-append-drop}
-use Rattle.spec.specs.Symbols.{starts}
-use Rattle.spec.specs.Sweep.{Turn, Rule, kept, sweep, reached, replacing, replace}
-use Rattle.printing.specs.Classes.{and-left, and-right, not-true}
-use Rattle.printing.specs.Local.{chain, absent}
+use Rattle.spec.specs.Sweep.{Turn, Rule, sweep}
+use Rattle.spec.specs.Laws.Booleans.{and-right}
+use Rattle.printing.specs.Local.{chain}
 use Rattle.printing.specs.Rule.{last}
 
 -- at every place of a text; `before` stands before it
@@ -46,34 +44,3 @@ module _ (R : ℕ → ℕ → ℕ → Bool) (r : Rule) (copies : (a before : ℕ
 
   pub sweep-chain : (s : List ℕ) → chain R 0 0 s ≡ true → sweep r 0 0 s ≡ s
   sweep-chain s h = sweep-copies r s 0 0 (chain-everywhere s 0 0 h)
-
--- ---- rules that act where a pattern stands
-pub record ActsAt (pattern : List ℕ) (rule : Rule) : Type 0 where
-  pub idle : (before : ℕ) (s : List ℕ) → starts pattern s ≡ false → rule before s ≡ kept s
-
-pub absent-everywhere : {pattern : List ℕ} {rule : Rule} → ActsAt pattern rule → (s : List ℕ) (before : ℕ) → absent pattern s ≡ true → Everywhere (Copies rule) before s
-absent-everywhere a [] before h = tt
-absent-everywhere {pattern} {rule} a (x ∷ s) before h =
-    let idle : rule before (x ∷ s) ≡ kept (x ∷ s) =
-    a .idle before (x ∷ s) (not-true (starts pattern (x ∷ s)) (and-left (not (starts pattern (x ∷ s))) (absent pattern s) h)) in
-    (rw idle, absent-everywhere a s x (and-right (not (starts pattern (x ∷ s))) (absent pattern s) h))
-
-pub sweep-absent : {pattern : List ℕ} {rule : Rule} → ActsAt pattern rule → (s : List ℕ) → absent pattern s ≡ true → sweep rule 0 0 s ≡ s
-sweep-absent {pattern} {rule} a s h = sweep-copies rule s 0 0 (absent-everywhere a s 0 h)
-
-pub replacing-acts : (pattern fresh : List ℕ) → ActsAt pattern (replacing pattern fresh)
-replacing-acts pattern fresh = record { idle = λ before s e. rw e }
-
-pub replace-absent : (pattern fresh s : List ℕ) → absent pattern s ≡ true → replace pattern fresh s ≡ s
-unfolding replace
-replace-absent pattern fresh s h = sweep-absent (replacing-acts pattern fresh) s h
-
--- a test that fails where the pattern doesn't stand is never met
-pub reached-absent : (pattern : List ℕ) (test : List ℕ → Bool) (rule : Rule) → ((s : List ℕ) → starts pattern s ≡ false → test s ≡ false)
-    → (s : List ℕ) (before skip : ℕ) → absent pattern s ≡ true → reached test rule before skip s ≡ false
-unfolding reached
-reached-absent pattern test rule untrue [] before skip h = refl
-reached-absent pattern test rule untrue (x ∷ s) before zero h =
-    rw (untrue (x ∷ s) (not-true (starts pattern (x ∷ s)) (and-left (not (starts pattern (x ∷ s))) (absent pattern s) h)))
-    (reached-absent pattern test rule untrue s x (rule before (x ∷ s) .more) (and-right (not (starts pattern (x ∷ s))) (absent pattern s) h))
-reached-absent pattern test rule untrue (x ∷ s) before (suc skip) h = reached-absent pattern test rule untrue s x skip (and-right (not (starts pattern (x ∷ s))) (absent pattern s) h)

@@ -13,15 +13,16 @@ use Rattle.spec.specs.Held.{holdBoth, putBack}
 use Rattle.spec.specs.Rows.{Row, functionMappings, operatorReplacements, greekLetters, wordMappings, greekCapitals}
 use Rattle.spec.specs.Words.{replaceRows, greek, capital, wordOrLiteral, heldRows, convertWords, capitals}
 use Rattle.spec.specs.Fractions.{mostRounds}
+use Rattle.spec.specs.Laws.Booleans.{and-left, and-right}
+use Rattle.spec.specs.Laws.Held.{unheld}
+use Rattle.spec.specs.Laws.Absent.{replace-absent}
 use Rattle.printing.specs.Tree.{Tree, Plain, depth, typed, markedStyle, write, text, latex}
-use Rattle.printing.specs.Classes.{and-left, and-right}
 use Rattle.printing.specs.Alphabet.{all-plain}
-use Rattle.printing.specs.Sweeps.{replace-absent}
 use Rattle.printing.specs.Absent.{stopped, absent-typed}
 use Rattle.printing.specs.WordsCopy.{twoLetters, wordRow, word-row-copies, capital-row-copies}
 use Rattle.printing.specs.Greek.{allRowsAt, passRule, passes-hold, greek-pass}
 use Rattle.printing.specs.Growth.{latex-longest}
-use Rattle.printing.specs.Blocks.{unheld, hold-both-none, put-back-none}
+use Rattle.printing.specs.Blocks.{both-nowhere, put-back-plain}
 use Rattle.printing.specs.Yields.{Yields, passed-yields, then-yields, stage-yields, held-yields}
 
 -- what numbers 5 and 7 ask of a plain formula: its fractions enclose one another at most 64 deep, and its LaTeX is not overgrown
@@ -80,10 +81,10 @@ module _ (t : Tree) (plain : Plain t) where
       (word-yields rs (and-right (wordRow r) (every wordRow rs) h))
 
   names-yield : Yields (Fits t) (heldRows greek greekLetters (holdBoth (text t))) (unheld marked)
-  names-yield = rw (hold-both-none (text t) (absent-typed (bytes "\\text{") refl t) (absent-typed (bytes "\\mathrm{") refl t)) (greek-yields greekLetters 0 passes-hold)
+  names-yield = rw (both-nowhere (text t) (absent-typed (bytes "\\text{") refl t) (absent-typed (bytes "\\mathrm{") refl t)) (greek-yields greekLetters 0 passes-hold)
 
   back-yields : Yields (Fits t) (putBack (unheld marked)) marked
-  back-yields = rw (put-back-none marked (all-plain (markedStyle false false) 0 t)) (passed-yields marked)
+  back-yields = rw (put-back-plain marked (all-plain (markedStyle false false) 0 t)) (passed-yields marked)
 
   pub words-yield : Yields (Fits t) (convertWords (text t)) marked
   unfolding convertWords

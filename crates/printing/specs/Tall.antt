@@ -1,17 +1,20 @@
 -- Which texts are tall: of the stacked texts before sizing, those of trees with a fraction in them.
 use mathlib.Core.Path.{_≡_, refl, sym, ap, _∙_}
-use mathlib.Core.Bool.{Bool, true, false, not, _&&_, _||_, true≢false, cond}
+use mathlib.Core.Bool.{Bool, true, false, not, _&&_, _||_, true≢false, cond, and-false}
 use mathlib.Core.List.{List, [], _∷_, _++_, append-nil, append-assoc}
 use mathlib.Core.Logic.{_⊎_, inl, inr}
 use Prim.Native.Nat.{ℕ, zero, suc, _≤_}
 use Prim.Native.Char.{code}
 use native.Mathlib.Omega.{arith}
 use lib.Dec.{eqb}
+use borrow.Author.Tests.{not-true}
 use Rattle.spec.specs.Symbols.{bytes, digit, alnum, all, starts, contains}
 use Rattle.spec.specs.Finish.{tall}
 use Rattle.spec.specs.Grammar.{Atom, variable, greek, number, greekNames, greekName}
+use Rattle.spec.specs.Laws.Booleans.{and-left, and-right, or-right}
+use Rattle.spec.specs.Laws.Names.{allRows}
 use Rattle.printing.specs.Tree.{Tree, Script, Join, beside, plus, minus, atom, fraction, group, row, bare, symbol, inner, atomText, joinText, slashless, slashlessScript, depth, depthScript, braced, write, writeScript}
-use Rattle.printing.specs.Classes.{apart, and-left, and-right, and-false, or-right, not-true, allRows, all-weaken}
+use Rattle.printing.specs.Classes.{apart, all-weaken}
 use Rattle.printing.specs.Unlatex.{clash, no-command, letter-alnum, digit-alnum, greek-alnum}
 
 -- ---- a text without a slash is not tall

@@ -1,12 +1,12 @@
 -- The tree of a sum of the grammar: products and sums become one row of factors.
-use mathlib.Core.Path.{_≡_, refl, ap, ap₂, _∙_}
-use mathlib.Core.Bool.{Bool, true, false, not, _&&_}
+use mathlib.Core.Path.{_≡_, refl, ap, ap₂, _∙_, sym}
+use mathlib.Core.Bool.{true, false, not, _&&_, and-assoc}
 use Prim.Native.Nat.{ℕ, suc, max}
 use native.Mathlib.Omega.{arith}
 use Rattle.spec.specs.Grammar
 use Rattle.spec.specs.Grammar.{Sum, product, plus, minus, Product, factor, beside, Factor, scripted, fraction, group, Operand, atom, enclosed, Script, bare, symbol, inner}
+use Rattle.spec.specs.Laws.Booleans.{and-left, and-right}
 use Rattle.printing.specs.Tree.{Tree, Script as TreeScript, Join, isRow, slashless, slashlessScript, scriptless, scriptlessScript, Plain, PlainScript, lone, depth, depthScript}
-use Rattle.printing.specs.Classes.{and-left, and-right}
 
 -- `onto` puts the factors of a product before a row
 abbrev mutual
@@ -37,10 +37,6 @@ abbrev mutual
   scriptTree (symbol c e) = TreeScript.symbol c e
   scriptTree (inner s) = TreeScript.inner (treeOf s)
 
-and-assoc : (a b c : Bool) → a && (b && c) ≡ a && b && c
-and-assoc true b c = refl
-and-assoc false b c = refl
-
 -- ---- no slash
 mutual
   pub slashless-tree : (s : Sum) → slashless (treeOf s) ≡ Grammar.slashless s
@@ -54,7 +50,7 @@ mutual
 
   slashless-onto : (p : Product) (j : Join) (t : Tree) → slashless (onto p j t) ≡ Grammar.slashlessProduct p && slashless t
   slashless-onto (factor f) j t = ap (λ b. b && slashless t) (slashless-factor f)
-  slashless-onto (beside f p) j t = ap₂ _&&_ (slashless-factor f) (slashless-onto p j t) ∙ and-assoc (Grammar.slashlessFactor f) (Grammar.slashlessProduct p) (slashless t)
+  slashless-onto (beside f p) j t = ap₂ _&&_ (slashless-factor f) (slashless-onto p j t) ∙ sym (and-assoc (Grammar.slashlessFactor f) (Grammar.slashlessProduct p) (slashless t))
 
   slashless-factor : (f : Factor) → slashless (factorTree f) ≡ Grammar.slashlessFactor f
   slashless-factor (scripted a l h) = ap₂ _&&_ (slashless-script l) (slashless-script h)
@@ -88,7 +84,7 @@ mutual
 
   scriptless-onto : (p : Product) (j : Join) (t : Tree) → scriptless (onto p j t) ≡ Grammar.scriptlessProduct p && scriptless t
   scriptless-onto (factor f) j t = ap (λ b. b && scriptless t) (scriptless-factor f)
-  scriptless-onto (beside f p) j t = ap₂ _&&_ (scriptless-factor f) (scriptless-onto p j t) ∙ and-assoc (Grammar.scriptlessFactor f) (Grammar.scriptlessProduct p) (scriptless t)
+  scriptless-onto (beside f p) j t = ap₂ _&&_ (scriptless-factor f) (scriptless-onto p j t) ∙ sym (and-assoc (Grammar.scriptlessFactor f) (Grammar.scriptlessProduct p) (scriptless t))
 
   scriptless-factor : (f : Factor) → scriptless (factorTree f) ≡ Grammar.scriptlessFactor f
   scriptless-factor (scripted a l h) = ap₂ _&&_ (script-bare l) (script-bare h)

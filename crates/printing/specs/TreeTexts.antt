@@ -5,11 +5,12 @@ use mathlib.Core.List.{List, _++_, append-nil, append-assoc}
 use Prim.Native.Nat.{ℕ, zero, suc, _≤_, max}
 use native.Mathlib.Nat.{le-refl}
 use native.Mathlib.Omega.{arith}
+use borrow.Author.Tests.{le-ltb, not-true}
 use Rattle.spec.specs.Symbols.{bytes}
 use Rattle.spec.specs.Grammar
 use Rattle.spec.specs.Grammar.{Atom, variable, greek, number, Sum, product, plus, minus, Product, factor, beside, Factor, scripted, fraction, group, Operand, atom, enclosed, Script, bare, symbol, inner}
+use Rattle.spec.specs.Laws.Booleans.{and-left, and-right}
 use Rattle.printing.specs.Tree.{Tree, Join, Style, atomText, joinText, operand, parens, lone, slashless, depth, depthScript, typst, write, writeScript, text, latex}
-use Rattle.printing.specs.Classes.{and-left, and-right, not-true, not-below}
 use Rattle.printing.specs.Unlatex.{styled, flat}
 use Rattle.printing.specs.TreeOf.{treeOf, productTree, onto, factorTree, operandTree, scriptTree, slashless-tree, slashless-operand, lone-tree}
 
@@ -22,7 +23,7 @@ write-onto s n (beside f p) j t = rw (write-onto s n p j t) (simp append-assoc)
 -- ---- as typed
 typed-atom : (a : Atom) → atomText 0 a ≡ Grammar.atomText a
 typed-atom (variable c e) = refl
-typed-atom (greek i e) = rw (not-below i 0 (omega arith))
+typed-atom (greek i e) = rw (le-ltb i 0 (omega arith))
 typed-atom (number ds e b) = refl
 
 typed-operand : (s : Sum) → Grammar.properOperand (enclosed s) ≡ true → {w : List ℕ} → text (treeOf s) ≡ w → operand (lone (treeOf s)) (text (treeOf s)) ≡ Grammar.parenthesized w

@@ -1,17 +1,20 @@
 -- The formula is read back from its LaTeX, so two formulas with one LaTeX are one.
 use mathlib.Core.Path.{_≡_, refl, sym, ap, _∙_}
-use mathlib.Core.Bool.{Bool, true, false, not, _&&_, _||_, true≢false, cond}
+use mathlib.Core.Bool.{Bool, true, false, not, _&&_, _||_, true≢false, cond, and-false, and-true}
 use mathlib.Core.List.{List, [], _∷_, _++_, append-nil, append-assoc}
 use Prim.Native.Nat.{ℕ, zero, suc, _≤_}
 use Prim.Native.Char.{code}
 use native.Mathlib.Nat.{le-refl}
 use native.Mathlib.Omega.{arith}
-use lib.Dec.{eqb, ltb, ltb→lt}
+use lib.Dec.{eqb, ltb}
 use lib.ListN.{drop}
+use borrow.Author.Tests.{ltb-true, le-ltb}
 use Rattle.spec.specs.Symbols.{bytes, letter, digit, alnum, all, starts}
 use Rattle.spec.specs.Grammar.{Atom, variable, greek, number, greekNames, greekName}
+use Rattle.spec.specs.Laws.Booleans.{and-left, and-right, or-right}
+use Rattle.spec.specs.Laws.Names.{allRows, row-rule}
 use Rattle.printing.specs.Tree.{Tree, Script, Style, Join, beside, plus, minus, atom, fraction, group, row, bare, symbol, inner, atomText, joinText, operand, lone, parens, slashless, slashlessScript, Plain, PlainScript, depth, depthScript, typst, write, writeScript, text, latex}
-use Rattle.printing.specs.Classes.{holds, not-below, apart, and-left, and-right, and-false, and-true, or-right, all-weaken, allRows, row-rule}
+use Rattle.printing.specs.Classes.{apart, all-weaken}
 use Rattle.printing.specs.Written.{greek-letters}
 
 -- what a closing brace closes
@@ -88,7 +91,7 @@ clash-starts (k ∷ w) (x ∷ v) r h = clash-step (clash w v) (eqb x k) (starts 
 
 pub no-command : (w : List ℕ) → allRows (clash w) greekNames ≡ true → (i : ℕ) → ltb i 30 ≡ true → (r : List ℕ) → starts w (greekName i ++ r) ≡ false
 unfolding greekName
-no-command w t i e r = clash-starts w (greekName i) r (row-rule (clash w) greekNames t i (ltb→lt i 30 (holds (ltb i 30) e)))
+no-command w t i e r = clash-starts w (greekName i) r (row-rule (clash w) greekNames t i (ltb-true i 30 e))
 
 pub letter-alnum : (x : ℕ) → letter x ≡ true → alnum x ≡ true
 letter-alnum x h = rw h
@@ -106,7 +109,7 @@ copy-greek i e fs r =
 
 copy-atom : (a : Atom) (fs : List Frame) (r : List ℕ) → unlatex 0 fs (atomText 30 a ++ r) ≡ atomText 0 a ++ unlatex 0 fs r
 copy-atom (variable c e) fs r = copy-one c (letter-alnum c e) fs r
-copy-atom (greek i e) fs r = rw (e, cond, not-below i 0 (omega arith)) (copy-greek i e fs r)
+copy-atom (greek i e) fs r = rw (e, cond, le-ltb i 0 (omega arith)) (copy-greek i e fs r)
 copy-atom (number ds e b) fs r = copy ds (all-weaken digit alnum digit-alnum ds e) fs r
 
 -- ---- the operand ahead

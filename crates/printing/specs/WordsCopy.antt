@@ -4,23 +4,23 @@ use mathlib.Core.Bool.{Bool, true, false, not, cond, _&&_, _||_, true≢false}
 use mathlib.Core.List.{List, [], _∷_}
 use Prim.Native.Nat.{ℕ, suc}
 use Prim.Native.Char.{code}
-use lib.Dec.{eqb, eqb→eq}
+use lib.Dec.{eqb}
 use lib.ListN.{length, take, drop}
+use borrow.Author.Tests.{eqb-true, not-true}
 use Rattle.spec.specs.Symbols.{is, letter, digit, alnum, wordly, scriptSign, head, past, starts}
 use Rattle.spec.specs.Sweep.{Turn, Rule, kept, taken, sweep, replacing}
 use Rattle.spec.specs.Rows.{Row}
 use Rattle.spec.specs.Words.{word, capital, literal, wordOrLiteral}
+use Rattle.spec.specs.Laws.Booleans.{and-left, and-right, or-neither}
+use Rattle.spec.specs.Laws.Symbols.{starts-take}
+use Rattle.spec.specs.Laws.Sweep.{sweep-absent}
+use Rattle.spec.specs.Laws.Absent.{replacing-waits}
 use Rattle.printing.specs.Tree.{Tree, markedStyle, write}
-use Rattle.printing.specs.Classes.{holds, not-true, and-left, and-right}
 use Rattle.printing.specs.Local.{chain}
 use Rattle.printing.specs.Rule.{rule}
 use Rattle.printing.specs.LocalTree.{marked-rule}
-use Rattle.printing.specs.Sweeps.{Copies, sweep-chain, sweep-absent, replacing-acts}
+use Rattle.printing.specs.Sweeps.{Copies, sweep-chain}
 use Rattle.printing.specs.Absent.{stopped, absent-marked}
-
-or-false : (a b : Bool) → a || b ≡ false → a ≡ false
-or-false true b e = e
-or-false false b e = refl
 
 double : (q : Bool) → not (not q && true) ≡ true → q ≡ true
 double true e = refl
@@ -35,14 +35,6 @@ second-letter a b c hb hc h =
     double q (rw hb at last)
 
 -- ---- a name that is found is spared
-starts-take : (w s : List ℕ) → starts w s ≡ true → take (length w) s ≡ w
-starts-take [] s h = refl
-starts-take (k ∷ w) [] h = absurd (true≢false (sym h))
-starts-take (k ∷ w) (x ∷ s) h =
-    let first : x ≡ k = eqb→eq x k (holds (eqb x k) (and-right (starts w s) (eqb x k) h)) in
-    let rest : take (length w) s ≡ w = starts-take w s (and-left (starts w s) (eqb x k) h) in
-    rw (first, rest)
-
 -- found, spared
 abbrev turn : List ℕ → List ℕ → List ℕ → Bool → Bool → Turn
 turn w v s found spared = cond found (taken (length w) (cond spared w v)) (kept s)
@@ -63,11 +55,11 @@ module _ (k l : ℕ) (w v : List ℕ) (hk : letter k ≡ true) (hl : letter l �
   behind-backslash a before (x ∷ []) h e = absurd (true≢false (sym e))
   behind-backslash a before (x ∷ y ∷ s) h e =
       let here : starts (k ∷ l ∷ w) (x ∷ y ∷ s) ≡ true = and-left (starts (k ∷ l ∷ w) (x ∷ y ∷ s)) (not (wordly before)) e in
-      let first : x ≡ k = eqb→eq x k (holds (eqb x k) (and-right (starts (l ∷ w) (y ∷ s)) (eqb x k) here)) in
-      let second : y ≡ l = eqb→eq y l (holds (eqb y l) (and-right (starts w s) (eqb y l) (and-left (starts (l ∷ w) (y ∷ s)) (eqb x k) here))) in
+      let first : x ≡ k = eqb-true x k (and-right (starts (l ∷ w) (y ∷ s)) (eqb x k) here) in
+      let second : y ≡ l = eqb-true y l (and-right (starts w s) (eqb y l) (and-left (starts (l ∷ w) (y ∷ s)) (eqb x k) here)) in
       let ruled : rule true before x y ≡ true = and-left (rule true before x y) (chain (rule true) x y s) (and-right (rule true a before x) _ h) in
       let open-left : wordly before ≡ false = not-true _ (and-right (starts (k ∷ l ∷ w) (x ∷ y ∷ s)) (not (wordly before)) e) in
-      let unlettered : letter before ≡ false = or-false (letter before) (digit before) (or-false (alnum before) (eqb before (code "_")) open-left) in
+      let unlettered : letter before ≡ false = or-neither (letter before) (digit before) (or-neither (alnum before) (eqb before (code "_")) open-left .0) .0 in
       rw unlettered at (second-letter before x y (rw first hk) (rw second hl) ruled)
 
   abbrev name : Row
@@ -118,7 +110,7 @@ module _ (below above : Bool) (n : ℕ) (t : Tree) where
   word-row-copies r h = go (literal (r .typst)) h
     where
       go : (b : Bool) → cond b (stopped (r .typst)) (twoLetters (r .typst)) ≡ true → sweep (cond b (replacing (r .typst) (r .latex)) (word r)) 0 0 s ≡ s
-      go true h = sweep-absent (replacing-acts (r .typst) (r .latex)) s (absent-marked (r .typst) h below above n t)
+      go true h = sweep-absent (replacing-waits (r .typst) (r .latex)) s 0 (absent-marked (r .typst) h below above n t)
       go false h = name-copies word (λ k l w v hk hl. word-copies k l w v hk hl s (marked-rule below above n t)) (r .typst) (r .latex) h
 
   pub capital-row-copies : (r : Row) → twoLetters (r .typst) ≡ true → sweep (capital r) 0 0 s ≡ s

@@ -4,12 +4,15 @@ use mathlib.Core.Bool.{Bool, true, false, cond}
 use mathlib.Core.List.{List, [], _∷_, _++_, append-assoc}
 use Prim.Native.Nat.{ℕ, zero, suc}
 use Prim.Native.Char.{code}
-use lib.Dec.{ltb, ltb→lt}
+use lib.Dec.{ltb}
+use borrow.Author.Tests.{ltb-true}
 use Rattle.spec.specs.Symbols.{bytes, letter, digit, alnum, all}
 use Rattle.spec.specs.Fractions.{operandSymbol, frac}
 use Rattle.spec.specs.Grammar.{Atom, variable, greek, number, greekNames, greekName}
+use Rattle.spec.specs.Laws.Booleans.{or-right}
+use Rattle.spec.specs.Laws.Names.{row-rule}
 use Rattle.printing.specs.Tree.{Tree, Script, Style, Join, beside, plus, minus, atom, fraction, group, row, bare, symbol, inner, atomText, joinText, operand, lone, unsized, write, writeScript, scriptGroup}
-use Rattle.printing.specs.Classes.{holds, all-weaken, all-append, row-rule, excludes, or-right}
+use Rattle.printing.specs.Classes.{all-weaken, all-append, excludes}
 use Rattle.printing.specs.Nest.{calm, Nest, run, paren, brace, both}
 
 pub alnum-operandSymbol : (x : ℕ) → alnum x ≡ true → operandSymbol x ≡ true
@@ -26,7 +29,7 @@ operandSymbol-calm x h = excludes operandSymbol (code "(" ∷ code ")" ∷ code 
 
 pub greek-letters : (i : ℕ) → ltb i 30 ≡ true → all letter (greekName i) ≡ true
 unfolding greekName
-greek-letters i h = row-rule (all letter) greekNames refl i (ltb→lt i 30 (holds (ltb i 30) h))
+greek-letters i h = row-rule (all letter) greekNames refl i (ltb-true i 30 h)
 
 lead-operandSymbols : (b : Bool) → all operandSymbol (cond b (bytes "\\") []) ≡ true
 lead-operandSymbols true = refl

@@ -7,10 +7,10 @@ use mathlib.Core.List.{List}
 use Prim.Native.Nat.{ℕ, _≤_}
 use lib.Dec.{ltb}
 use lib.ListN.{length}
+use borrow.Author.Tests.{le-ltb}
 use Rattle.spec.specs.Result.{Result, passed, refused, _then_, mostSymbols, grown, stage}
 use Rattle.spec.specs.Held.{heldStage}
-use Rattle.printing.specs.Classes.{not-below}
-use Rattle.printing.specs.Blocks.{unheld, in-full-none}
+use Rattle.spec.specs.Laws.Held.{unheld, in-full-none}
 
 pub record Yields {A : Type 0} (C : Type 0) (r : Result A) (a : A) : Type 0 where
   pub only : (x : A) → r ≡ passed x → x ≡ a
@@ -33,7 +33,7 @@ then-yields (refused number) f {a} {b} p q = record { only = λ y e. cc; does = 
 
 module _ {C : Type 0} where
   grown-yields : {A : Type 0} (s : List ℕ) (a : A) → (C → length s ≤ mostSymbols) → Yields C (grown s a) a
-  grown-yields {A} s a short = record { only = only (ltb mostSymbols (length s)); does = λ c. ap (λ b. cond b (refused 5) (passed a)) (not-below mostSymbols (length s) (short c)) }
+  grown-yields {A} s a short = record { only = only (ltb mostSymbols (length s)); does = λ c. ap (λ b. cond b (refused 5) (passed a)) (le-ltb mostSymbols (length s) (short c)) }
     where
       only : (b : Bool) (x : A) → cond b (refused 5) (passed a) ≡ passed x → x ≡ a
       only true x e = cc

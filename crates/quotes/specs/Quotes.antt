@@ -5,16 +5,15 @@
 -- Assumes nothing.
 use mathlib.Core.Path.{_≡_, refl, sym, ap, ap₂, _∙_, subst}
 use mathlib.Core.Bool.{Bool, true, false, cond, _||_}
-use mathlib.Core.List.{List, [], _∷_, _++_, reverse, reverseAux, reverse-append, reverse-reverse, reverseAux-eq, reverseAux-reverseAux-nil}
-use mathlib.Core.Option.{Option, none, some}
+use mathlib.Core.List.{List, [], _∷_, _++_, reverse, reverseAux, reverseAux-eq, reverseAux-reverseAux-nil}
 use Prim.Native.Nat.{ℕ, zero, suc, _+_, _-_, _*_, _≤_, _<_}
 use native.Mathlib.Numerals.{add-one}
 use native.Mathlib.Omega.{arith}
-use lib.ListN.{length, getD, take, drop, length-drop, length-reverse, length-reverseAux, drop-of-length-le, take-append-drop}
-use lib.Seq.{drop-drop, take-at}
-use Rattle.spec.specs.Symbols.{bytes, is, alnum, blank, head, dropWhile, trimStart, find}
+use lib.ListN.{length, getD, drop, length-drop, length-reverse, length-reverseAux, drop-of-length-le}
+use lib.Seq.{drop-drop}
+use Rattle.spec.specs.Symbols.{bytes, is, alnum, blank, head, dropWhile, trimStart}
 use Rattle.spec.specs.Quotes.{gapBefore, openQuote, gapBehind, closeQuote, skipped, quotes, convertTextQuotes}
-use Rattle.spec.specs.Laws.Symbols.{drop-step, head-drop}
+use Rattle.spec.specs.Laws.Symbols.{drop-step, head-drop, reverse-drop}
 use Rattle.symbols.specs.Places.{Ahead}
 use Rattle.symbols.specs.Runs.{ahead-length}
 use Rattle.text.specs.Writer.{Appended}
@@ -138,11 +137,6 @@ quoting-none s w to cap = record { out = []; so-far = refl; counted = refl; wrot
 reverse-put : (bs o : List ℕ) → reverse (reverseAux bs o) ≡ reverse o ++ bs
 reverse-put bs o = reverseAux-reverseAux-nil bs o ∙ reverseAux-eq o bs
 
-reverse-drop : (k : ℕ) (o : List ℕ) → reverse (drop k o) ≡ take (length o - k) (reverse o)
-reverse-drop k o =
-    let l : length (reverse (drop k o)) ≡ length o - k = length-reverse (drop k o) ∙ length-drop k o in
-    sym (ap (take (length o - k)) (ap reverse (sym (take-append-drop k o)) ∙ reverse-append (take k o) (drop k o)) ∙ take-at (reverse (drop k o)) (reverse (take k o)) (length o - k) l)
-
 -- bs has been appended to the text o
 put-more :
     {s w₀ w w′ : List ℕ} {to cap count count′ : ℕ} {quoted : Bool} {t : Tail} {i : ℕ} (o bs : List ℕ)
@@ -245,19 +239,3 @@ module _ {s w₀ w : List ℕ} {to cap count i : ℕ} {t : Tail} {quoted : Bool}
         counted = long ∙ ap length whole;
         wrote = subst (λ l. Wrote w₀ w′ to cap l) (sym (reverse-put (125 ∷ []) (q .out)) ∙ whole) (wrote-more fits (c ∙ sym (length-reverse (q .out))) (q .wrote) a);
       }
-
--- ---- a text with no quote is left as it is
-plain-only : (o s : List ℕ) → find (bytes "\"") s ≡ none → quotes false 0 o s ≡ reverseAux s o
-unfolding quotes find
-plain-only o [] e = refl
-plain-only o (x ∷ s) e = go (is "\"" x) refl (plain-only (x ∷ o) s) e
-  where
-    go : (b : Bool) → is "\"" x ≡ b → (find (bytes "\"") s ≡ none → quotes false 0 (x ∷ o) s ≡ reverseAux s (x ∷ o))
-        → _≡_ {A = Option (List ℕ)} (elim b [ true ↦ some (x ∷ s) | false ↦ find (bytes "\"") s ]) none
-        → quotes false 0 o (x ∷ s) ≡ reverseAux s (x ∷ o)
-    go true b rest e = let z : _≡_ {A = ℕ} 0 1 = cc in absurd (omega arith)
-    go false b rest e = quotes-plain false o s x b ∙ rest e
-
-pub quotes-absent : (s : List ℕ) → find (bytes "\"") s ≡ none → convertTextQuotes s ≡ s
-unfolding convertTextQuotes
-quotes-absent s e = ap reverse (plain-only [] s e) ∙ reverse-reverse s

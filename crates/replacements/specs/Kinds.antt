@@ -5,22 +5,25 @@
 use mathlib.Core.Path.{_≡_, refl, sym, ap, _∙_, subst, subst₂}
 use mathlib.Core.Bool.{Bool, true, false, cond, _||_}
 use mathlib.Core.List.{List, [], _∷_}
-use Prim.Native.Nat.{ℕ, _+_, _-_, _≤_, _<_}
+use Prim.Native.Nat.{ℕ, _+_, _-_, _*_, _≤_, _<_}
+use native.Mathlib.Omega.{arith}
+use lib.ListN.{getD}
 use Rattle.spec.specs.Symbols.{is}
 use Rattle.spec.specs.Sweep.{Rule, sweep, replacing, replace}
 use Rattle.spec.specs.Result.{Result, passed, refused, _then_, stage}
 use Rattle.spec.specs.Rows.{Row}
 use Rattle.spec.specs.Words.{greek, word, capital, literal, wordOrLiteral, replaceRows, capitals}
+use Rattle.symbols.specs.Parts.{length-part}
 use Rattle.entries.specs.declared.bounds.Bounds.{Bounds}
 use Rattle.entries.specs.declared.bounds.Bounds.the-variants as around
 use Rattle.text.specs.Stage.{Ready}
-use Rattle.entries.specs.Bounded.{bounded, bounded-waits, literal-bounded, greek-bounded, word-bounded, capital-bounded}
+use Rattle.entries.specs.Bounded.{Fair, bounded, bounded-waits, literal-bounded, greek-bounded, word-bounded, capital-bounded}
 use Rattle.entries.specs.Sized.{sized, sized-none, Within, Applied, applied-alike}
 use Rattle.entries.specs.Seen.{nowhere, applied-idle}
 use Rattle.text.specs.declared.Progress.{Progress}
+use Rattle.rows.specs.Rows.{rowAt, rowsFrom, fairRow, row-within, typst-some, typst-fits, latex-fits, row-next, rows-done}
 use Rattle.replacements.specs.declared.Kind.{Kind}
 use Rattle.replacements.specs.declared.Kind.the-variants.{Literal, Greek, Word, Capital}
-use Rattle.replacements.specs.Rows.{rowAt, rowsFrom, row-next, rows-done}
 
 abbrev pub ruleOf : Kind → Row → Rule
 ruleOf Literal r = replacing (r .typst) (r .latex)
@@ -43,6 +46,14 @@ rule-bounded Word r s = go (literal (r .typst))
     go : (t : Bool) → sweep (bounded (cond t around.Literal around.Word) (r .typst) (r .latex)) 0 0 s ≡ sweep (cond t (replacing (r .typst) (r .latex)) (word r)) 0 0 s
     go true = literal-bounded (r .typst) (r .latex) s
     go false = word-bounded r s
+
+-- a row of the table can be applied
+pub row-fair : (table : List ℕ) (k : ℕ) → fairRow table k ≡ true → Fair (rowAt table k .typst) (rowAt table k .latex)
+row-fair table k e =
+    let w = row-within table k e in let a = typst-fits table k e in let b = latex-fits table k e in let c = typst-some table k e in
+    let t = length-part (k * 36 + 1) (getD table (k * 36) 0) table (omega arith) in
+    let l = length-part (k * 36 + 16 + 1) (getD table (k * 36 + 16) 0) table (omega arith) in
+    record { some = omega arith; short = omega arith; few = omega arith }
 
 -- a row, as the code applies it
 pub row-applied :

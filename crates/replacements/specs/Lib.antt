@@ -1,3 +1,2 @@
--- Tables of names, and the stages that apply their rows.
-pub mod Rows
+-- The stages that apply the rows of a table of names.
 pub mod Kinds

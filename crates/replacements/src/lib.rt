@@ -1,16 +1,16 @@
 // Rows of a table, applied one after another: each row is a name as it is typed, and its LaTeX.
 use entries::Bounds;
+use rows::ROW;
+use rows::TYPST;
 use text::Progress;
 ghost use mathlib.Core.Path.{_≡_};
 ghost use mathlib.Core.Bool.{true};
-ghost use Prim.Native.Nat.{_+_, _*_, _<_};
-ghost use lib.ListN.{length, getD};
 ghost use Rattle.spec.specs.Sweep.{sweep};
 ghost use Rattle.spec.specs.Words.{literal};
 ghost use Rattle.text.specs.Stage.{Ready};
 ghost use Rattle.entries.specs.Seen.{SeenIn, nowhere};
 ghost use Rattle.entries.specs.Sized.{Within, Applied, StagedWithin};
-ghost use Rattle.replacements.specs.Rows.{rowAt, fairRow, rowsOf, fairTable};
+ghost use Rattle.rows.specs.Rows.{rowAt, fairRow, rowsOf, fairTable};
 ghost use Rattle.replacements.specs.Kinds.{boundsOf, ruleOf, sizedRows};
 
 // What may stand around the names of a table.
@@ -24,11 +24,6 @@ pub enum Kind {
     // A whole word.
     Capital,
 }
-
-// Bytes of a row, and those before its LaTeX.
-const ROW: usize = 36;
-
-const TYPST: usize = 16;
 
 // Whether a word is replaced wherever it stands: it has `(`, `|` or a point in it.
 fn is_literal(word: &[u8]) -> bool
@@ -60,14 +55,6 @@ fn bounds_of(kind: Kind, typst: &[u8]) -> Bounds
     }
 }
 
-// Where the text ends whose length stands at `at`.
-fn end_of(table: &[u8], at: usize) -> usize
-    requires { ⌜ at < length (now table) ⌝ }
-    ensures { λ r. ⌜ r ≡ at + 1 + getD (now (table .entry)) at 0 ⌝ }
-{
-    at + 1 + (table[at] as usize)
-}
-
 // Whether row k's name is nowhere in the text.
 fn is_row_nowhere(work: &[u8], text: Progress, seen: &[u8; 768], table: &[u8], k: usize) -> bool
     requires { ⌜ Ready (now work) text ⌝ }
@@ -77,7 +64,7 @@ fn is_row_nowhere(work: &[u8], text: Progress, seen: &[u8; 768], table: &[u8], k
 {
     let at = k * ROW;
     let typst = at + 1;
-    let end = end_of(table, at);
+    let end = rows::end_of(table, at);
     entries::is_nowhere(work, text, seen, &table[typst..end])
 }
 
@@ -98,9 +85,9 @@ fn apply_row(
     let at = k * ROW;
     let middle = at + TYPST;
     let typst = at + 1;
-    let typst_end = end_of(table, at);
+    let typst_end = rows::end_of(table, at);
     let latex = middle + 1;
-    let latex_end = end_of(table, middle);
+    let latex_end = rows::end_of(table, middle);
     let bounds = bounds_of(kind, &table[typst..typst_end]);
     entries::apply(
         work,

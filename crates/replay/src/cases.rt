@@ -86,7 +86,7 @@ fn case_of(header: &[u8]) -> Case
         output: two(header, 6),
         formula: two(header, 8),
         table: four(header, 10),
-        number: wide(header[14]) as u64,
+        number: symbols::wide(header[14]) as u64,
         latex: two(header, 15),
     }
 }
@@ -118,18 +118,11 @@ fn two(s: &[u8], at: usize) -> usize
     ensures { λ r. ⌜ r ≡ getD (now (s .entry)) at 0 * 256 + getD (now (s .entry)) (at + 1) 0 ⌝ }
     ensures { λ r. ⌜ r < 65536 ⌝ }
 {
-    wide(s[at]) * 256 + wide(s[at + 1])
+    symbols::wide(s[at]) * 256 + symbols::wide(s[at + 1])
 }
 
 fn four(s: &[u8], at: usize) -> usize
     requires { ⌜ at + 4 ≤ length (now s) ⌝ }
 {
     two(s, at) * 65_536 + two(s, at + 2)
-}
-
-fn wide(b: u8) -> usize
-    ensures { λ r. ⌜ r ≡ b ⌝ }
-    ensures { λ r. ⌜ r < 256 ⌝ }
-{
-    b as usize
 }

@@ -19,6 +19,7 @@ use Rattle.spec.specs.Closing.{findMatchingParen, findMatchingBrace}
 use Rattle.spec.specs.Words.{braced, parenToBrace}
 use Rattle.spec.specs.Laws.Symbols.{starts-long, past-drop}
 use Rattle.spec.specs.Laws.Sweep.{Waits}
+use Rattle.spec.specs.Laws.Absent.{replacing-waits, paren-to-brace-waits}
 use Rattle.symbols.specs.Parts.{part, rest-of}
 use Rattle.search.specs.Search.{Closes, closes-at, closes-within, closes-nothing, inside-drop, until-drop}
 use Rattle.symbols.specs.Places.{Ahead}
@@ -85,8 +86,8 @@ pub record Met (pattern s : List ℕ) : Type 0 where
 
 -- ---- without its pattern each rule copies
 pub rule-waits : (kind : Kind) (pattern left : List ℕ) → Waits pattern (ruleOf kind pattern left)
-rule-waits Literal pattern left = record { copies = λ before s e. rw e }
-rule-waits ParenToBrace pattern left = record { copies = λ before s e. rw (e, parenToBrace) }
+rule-waits Literal pattern left = replacing-waits pattern left
+rule-waits ParenToBrace pattern left = paren-to-brace-waits pattern left
 rule-waits WrapText pattern left = record { copies = λ before s e. rw (e, wrapTextBy) }
 rule-waits WrapMultichar pattern left = record { copies = λ before s e. rw e }
 

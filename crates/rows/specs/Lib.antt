@@ -1,3 +1,2 @@
--- Constant tables of texts: how the code holds one, and whether a text is in it.
-pub mod Flat
-pub mod Named
+-- Tables of names, as the code holds them.
+pub mod Rows

@@ -16,7 +16,7 @@ use lib.Dec.{eqb}
 use lib.ListN.{length, getD, take, drop, length-drop, drop-of-length-le}
 use borrow.Author.Tests.{eqb-false}
 use lib.Seq.{drop-drop}
-use Rattle.spec.specs.Laws.Symbols.{drop-step, any-end, starts-other, starts-same, find-drop}
+use Rattle.spec.specs.Laws.Symbols.{drop-step, any-end, starts-other, starts-same, isSome, contains-find, find-drop}
 use Rattle.spec.specs.Symbols.{any, inside, until, starts, find, contains}
 use Rattle.symbols.specs.Parts.{part, rest-of}
 use Rattle.search.specs.declared.Found.{Found}
@@ -143,19 +143,6 @@ find-passed (k ∷ w) s {i} {first} {r} f other h q =
         ∙ go n (j + 1) (omega arith) (omega arith)
 
 -- ---- whether a pattern occurs
-abbrev pub isSome : Option (List ℕ) → Bool
-isSome none = false
-isSome (some t) = true
-
-pub contains-find : (w s : List ℕ) → isSome (find w s) ≡ contains w s
-unfolding find
-contains-find w [] = refl
-contains-find w (x ∷ s) = go (starts w (x ∷ s)) (contains-find w s)
-  where
-    go : (t : Bool) → isSome (find w s) ≡ contains w s → isSome (elim t [ true ↦ some (x ∷ s) | false ↦ find w s ]) ≡ t || contains w s
-    go true e = refl
-    go false e = e
-
 pub contains-at : (w s : List ℕ) {r : Found} {k : ℕ} → Finds s r (find w s) → r ≡ At k → contains w s ≡ true
 contains-at w s f e = sym (contains-find w s) ∙ ap isSome (finds-at f e)
 

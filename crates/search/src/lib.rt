@@ -1,10 +1,10 @@
-// Searches that hold nothing: how a text begins, where a pattern stands, what lies at a place.
+// Searches that hold nothing: how a text begins, whether two are the same, where a pattern stands, what lies at a place.
 ghost use mathlib.Core.Path.{_≡_};
 ghost use mathlib.Core.List.{_∷_};
 ghost use Prim.Native.Nat.{_≤_};
 ghost use lib.Dec.{eqb};
 ghost use lib.ListN.{length, getD};
-ghost use Rattle.spec.specs.Symbols.{any, starts, find as found, contains as occurs};
+ghost use Rattle.spec.specs.Symbols.{any, same, starts, find as found, contains as occurs};
 ghost use Rattle.search.specs.Search.{Finds, Passed, Sought};
 
 // What a search answers.
@@ -26,6 +26,16 @@ pub fn starts_with(s: &[u8], pattern: &[u8]) -> bool
         }
     }
     true
+}
+
+// Whether the two texts are the same.
+pub fn is_same(a: &[u8], b: &[u8]) -> bool
+    ensures { λ r. ⌜ r ≡ same (now (a .entry)) (now (b .entry)) ⌝ }
+{
+    if a.len() != b.len() {
+        return false;
+    }
+    starts_with(a, b)
 }
 
 // Whether the symbol is among these 8. All of them are looked at, which the compiler does at once.

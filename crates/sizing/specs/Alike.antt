@@ -2,7 +2,7 @@
 --     Alike         two texts, last symbol first, that are the same up to the closer of a group
 --     sizes-alike   sizing can't tell them apart
 use mathlib.Core.Path.{_≡_, refl, sym, ap, ap₂, _∙_}
-use mathlib.Core.Bool.{Bool, true, false, not, _&&_, _||_, and-comm, false≢true}
+use mathlib.Core.Bool.{Bool, true, false, not, _&&_, _||_, and-comm}
 use mathlib.Core.List.{List, [], _∷_, _++_, reverse, reverseAux}
 use mathlib.Core.Option.{Option, none, some}
 use mathlib.Core.Logic.{_⊎_, inl, inr}
@@ -11,6 +11,7 @@ use lib.Dec.{eqb}
 use lib.ListN.{length}
 use Rattle.spec.specs.Symbols.{bytes, all, starts, until}
 use Rattle.spec.specs.Finish.{scriptGroup, closing, alreadySized, Group, tallGroup, leftRight, sizeStep, sizeWith}
+use Rattle.spec.specs.Laws.Booleans.{and-parts}
 use Rattle.sizing.specs.Levels.{groupWith, groupStep, scriptStep, sizes}
 
 abbrev pub Closer : ℕ → Type 0
@@ -33,17 +34,13 @@ alike-reverse (x ∷ u) a = alike-reverse u (more x a)
 abbrev free : List ℕ → Bool
 free w = all (λ k. not (eqb 41 k) && not (eqb 93 k)) w
 
-both-true : (a b : Bool) → a && b ≡ true → (a ≡ true) × (b ≡ true)
-both-true true b e = (refl, e)
-both-true false b e = absurd (false≢true e)
-
 not-closer : (k c : ℕ) → not (eqb 41 k) && not (eqb 93 k) ≡ true → Closer c → eqb c k ≡ false
-not-closer k c e (inl f) = ap (λ d. eqb d k) f ∙ go (eqb 41 k) (both-true (not (eqb 41 k)) (not (eqb 93 k)) e .0)
+not-closer k c e (inl f) = ap (λ d. eqb d k) f ∙ go (eqb 41 k) (and-parts (not (eqb 41 k)) (not (eqb 93 k)) e .0)
   where
     go : (t : Bool) → not t ≡ true → t ≡ false
     go true e = sym e
     go false e = refl
-not-closer k c e (inr f) = ap (λ d. eqb d k) f ∙ go (eqb 93 k) (both-true (not (eqb 41 k)) (not (eqb 93 k)) e .1)
+not-closer k c e (inr f) = ap (λ d. eqb d k) f ∙ go (eqb 93 k) (and-parts (not (eqb 41 k)) (not (eqb 93 k)) e .1)
   where
     go : (t : Bool) → not t ≡ true → t ≡ false
     go true e = sym e
@@ -52,9 +49,9 @@ not-closer k c e (inr f) = ap (λ d. eqb d k) f ∙ go (eqb 93 k) (both-true (no
 starts-alike : (w : List ℕ) {o p : List ℕ} → free w ≡ true → Alike o p → starts w o ≡ starts w p
 starts-alike [] e a = refl
 starts-alike (k ∷ w) e nothing = refl
-starts-alike (k ∷ w) e (more x a) = ap (λ b. b && eqb x k) (starts-alike w (both-true (not (eqb 41 k) && not (eqb 93 k)) (free w) e .1) a)
+starts-alike (k ∷ w) e (more x a) = ap (λ b. b && eqb x k) (starts-alike w (and-parts (not (eqb 41 k) && not (eqb 93 k)) (free w) e .1) a)
 starts-alike (k ∷ w) e (group {o} {p} c f) =
-    let n = not-closer k c (both-true (not (eqb 41 k) && not (eqb 93 k)) (free w) e .0) f in
+    let n = not-closer k c (and-parts (not (eqb 41 k) && not (eqb 93 k)) (free w) e .0) f in
     ap (λ b. starts w o && b) n ∙ and-comm (starts w o) false ∙ sym (ap (λ b. starts w p && b) n ∙ and-comm (starts w p) false)
 
 sized-alike : {o p : List ℕ} → Alike o p → alreadySized o ≡ alreadySized p

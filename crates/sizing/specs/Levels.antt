@@ -15,6 +15,7 @@ use borrow.Author.Tests.{eqb-true}
 use Rattle.spec.specs.Symbols.{bytes, is, _andThen_, scriptSign, head, past, until, inside, starts, contains}
 use Rattle.spec.specs.Closing.{Side, opens, closes, neither, sideOf, close, matchingDelimiter}
 use Rattle.spec.specs.Finish.{scriptGroup, closing, alreadySized, Group, tall, tallGroup, leftRight, sizeStep, sizeWith, sizeDelimitersToContent}
+use Rattle.spec.specs.Laws.Booleans.{or-neither}
 
 -- ---- what stands behind a closer is shorter, and the closer stands before it
 pub record Behind (c : ℕ) (s r : List ℕ) : Type 0 where
@@ -206,10 +207,6 @@ pub record Plain (s : List ℕ) : Type 0 where
   pub round : contains (bytes "(") s ≡ false
   pub square : contains (bytes "[") s ≡ false
 
-plain-head : (a b : Bool) → a || b ≡ false → (a ≡ false) × (b ≡ false)
-plain-head true b e = absurd (false≢true (sym e))
-plain-head false b e = (refl, e)
-
 abbrev Smaller : ℕ → Type 0
 Smaller k = (o s : List ℕ) → Plain s → sizeWith k o s ≡ s
 
@@ -220,10 +217,10 @@ with-plain (suc k) o [] plain = refl
 with-plain (suc k) o (x ∷ s) plain = script (scriptGroup x s) refl (with-plain k)
   where
     round : (eqb x 40 ≡ false) × (contains (bytes "(") s ≡ false)
-    round = plain-head (eqb x 40) (contains (bytes "(") s) (plain .round)
+    round = or-neither (eqb x 40) (contains (bytes "(") s) (plain .round)
 
     square : (eqb x 91 ≡ false) × (contains (bytes "[") s ≡ false)
-    square = plain-head (eqb x 91) (contains (bytes "[") s) (plain .square)
+    square = or-neither (eqb x 91) (contains (bytes "[") s) (plain .square)
 
     closing-none : closing x ≡ none
     closing-none = rw (round .0, square .0, closing)
@@ -249,4 +246,4 @@ unfolding sizeDelimitersToContent
 size-plain s plain = with-plain (length s) [] s plain
 
 pub plain-of : (s : List ℕ) → contains (bytes "(") s || contains (bytes "[") s ≡ false → Plain s
-plain-of s e = let p = plain-head (contains (bytes "(") s) (contains (bytes "[") s) e in record { round = p .0; square = p .1 }
+plain-of s e = let p = or-neither (contains (bytes "(") s) (contains (bytes "[") s) e in record { round = p .0; square = p .1 }

@@ -5,19 +5,20 @@
 -- Assumes nothing.
 use mathlib.Core.Path.{_≡_, refl, sym, ap, ap₂, _∙_, subst}
 use mathlib.Core.Bool.{Bool, true, false, cond, _&&_}
-use mathlib.Core.List.{List, [], _∷_, _++_, reverse, reverseAux, reverse-append, reverse-reverse, reverseAux-eq, reverseAux-append, append-assoc, append-nil}
+use mathlib.Core.List.{List, [], _∷_, _++_, reverse, reverseAux, reverse-append, reverseAux-eq, reverseAux-append, append-assoc}
 use mathlib.Core.Option.{Option, none, some}
 use mathlib.Core.Logic.{inl, inr}
 use Prim.Native.Nat.{ℕ, suc, _+_, _-_, _≤_, _<_}
 use native.Mathlib.Omega.{arith}
 use lib.Dec.{eqb}
-use lib.ListN.{length, getD, take, drop, length-take, length-drop, length-reverse, take-append-drop}
-use lib.Seq.{drop-drop, take-add, take-all, take-append-seam, getD-drop}
-use borrow.Author.Tests.{eq-eqb, ne-eqb}
+use lib.ListN.{length, getD, take, drop, length-take, length-drop, length-reverse}
+use lib.Seq.{drop-drop, take-add, getD-drop, length-take-le}
+use borrow.Author.Tests.{ne-eqb}
 use Rattle.spec.specs.Symbols.{bytes, is, scriptSign, head, until, inside, starts}
 use Rattle.spec.specs.Closing.{close, matchingDelimiter}
 use Rattle.spec.specs.Finish.{scriptGroup, closing, alreadySized, Group, tall, tallGroup, leftRight, sizeDelimitersToContent}
-use Rattle.spec.specs.Laws.Symbols.{drop-step, head-drop, starts-take, starts-short}
+use Rattle.spec.specs.Laws.Symbols.{drop-step, head-drop, starts-short}
+use Rattle.spec.specs.Laws.Ends.{ends-front}
 use Rattle.symbols.specs.Parts.{part, drop-take}
 use Rattle.search.specs.Search.{Closes, closes-at, closes-within, closes-nothing, reach, inside-drop, until-drop}
 use Rattle.symbols.specs.Places.{before, before-next}
@@ -42,33 +43,7 @@ unfoldable pub sizedAt : List ℕ → ℕ → List ℕ
 sizedAt s i = sizes (before s i) (drop i s)
 
 -- ---- a word that stands right before a place
-starts-own : (w t : List ℕ) → starts w (w ++ t) ≡ true
-starts-own [] t = refl
-starts-own (k ∷ w) t = ap₂ (λ a b. a && b) (starts-own w t) (eq-eqb k k refl)
-
 -- the last symbols of u are x
-starts-back : (w x v : List ℕ) → length w ≡ length x → starts w x ≡ starts (reverse w) (reverse (v ++ x))
-starts-back w x v e = go (starts w x) refl (starts (reverse w) (reverse (v ++ x))) refl
-  where
-    split : reverse (v ++ x) ≡ reverse x ++ reverse v
-    split = reverse-append v x
-
-    go : (a : Bool) → starts w x ≡ a → (b : Bool) → starts (reverse w) (reverse (v ++ x)) ≡ b → a ≡ b
-    go true f true g = refl
-    go true f false g =
-        let same : x ≡ w = sym (take-all (length w) x (omega arith)) ∙ starts-take w x f in
-        sym (starts-own (reverse w) (reverse v)) ∙ ap (λ t. starts (reverse w) (reverse t ++ reverse v)) (sym same) ∙ ap (starts (reverse w)) (sym split) ∙ g
-    go false f true g =
-        let lw = length-reverse w in let lx = length-reverse x in
-        let n : length (reverse w) ≡ length (reverse x) = omega arith in
-        let met = starts-take (reverse w) (reverse (v ++ x)) g in
-        let back : reverse x ≡ reverse w =
-        sym (take-append-seam (reverse x) (reverse v)) ∙ ap (λ k. take k (reverse x ++ reverse v)) (sym n) ∙ ap (take (length (reverse w))) (sym split) ∙ met
-        in
-        let same : x ≡ w = sym (reverse-reverse x) ∙ ap reverse back ∙ reverse-reverse w in
-        sym f ∙ ap (starts w) (same ∙ sym (append-nil w)) ∙ starts-own w []
-    go false f false g = refl
-
 pub before-short : (w s : List ℕ) (i : ℕ) → i < length w → starts (reverse w) (before s i) ≡ false
 before-short w s i h =
     let lw = length-reverse w in let lt = length-reverse (take i s) in let l = length-take i s in
@@ -76,12 +51,7 @@ before-short w s i h =
 
 pub before-is : (w s : List ℕ) (i : ℕ) → length w ≤ i → i ≤ length s → starts w (part (i - length w) (i - (i - length w)) s) ≡ starts (reverse w) (before s i)
 before-is w s i h within =
-    let x = part (i - length w) (i - (i - length w)) s in
-    let lx = length-take (i - (i - length w)) (drop (i - length w) s) in let ld = length-drop (i - length w) s in
-    let cut : take (i - length w) (take i s) ++ x ≡ take i s =
-    ap (λ t. take (i - length w) (take i s) ++ t) (sym (drop-take (i - length w) i s)) ∙ take-append-drop (i - length w) (take i s)
-    in
-    starts-back w x (take (i - length w) (take i s)) (omega arith) ∙ ap (λ t. starts (reverse w) (reverse t)) cut
+    sym (ends-front w (take i s) ∙ ap (λ n. starts w (drop (n - length w) (take i s))) (length-take-le i s within) ∙ ap (starts w) (drop-take (i - length w) i s))
 
 -- ---- a script group, by the code's test
 module _ (s : List ℕ) (i : ℕ) {a : Bool} {y : ℕ} (sign : a ≡ scriptSign (getD s i 0)) (next : y ≡ getD s (i + 1) 0) where

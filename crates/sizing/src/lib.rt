@@ -7,6 +7,7 @@ use text::Progress;
 ghost use Prim.Native.Nat.{_+_};
 ghost use mathlib.Core.Path.{_≡_};
 ghost use mathlib.Core.List.{[], _∷_, _++_};
+ghost use lib.ListN.{length};
 ghost use Rattle.spec.specs.Symbols.{bytes};
 ghost use Rattle.spec.specs.Result.{stage};
 ghost use Rattle.spec.specs.Finish.{sizeDelimitersToContent};
@@ -33,20 +34,27 @@ fn closer_of(b: u8) -> u8
     b']'
 }
 
+// Appends a command and its delimiter.
+fn put_sized(work: &mut [u8], to: usize, count: usize, command: &[u8], b: u8) -> usize
+    requires { ⌜ Room (now work) to 8192 count (length (now command) + 1) ⌝ }
+    ensures { λ r. ⌜ Appended (now (work .entry)) (now (work .exit)) to 8192 count r (now (command .entry) ++ b ∷ []) ⌝ }
+{
+    let end = text::put_all(work, to, text::CAP, count, command);
+    text::put(work, to, text::CAP, end, b)
+}
+
 fn put_left(work: &mut [u8], to: usize, count: usize, b: u8) -> usize
     requires { ⌜ Room (now work) to 8192 count 6 ⌝ }
     ensures { λ r. ⌜ Appended (now (work .entry)) (now (work .exit)) to 8192 count r (bytes "\\left" ++ b ∷ []) ⌝ }
 {
-    let command = text::put_all(work, to, text::CAP, count, b"\\left");
-    text::put(work, to, text::CAP, command, b)
+    put_sized(work, to, count, b"\\left", b)
 }
 
 fn put_right(work: &mut [u8], to: usize, count: usize, b: u8) -> usize
     requires { ⌜ Room (now work) to 8192 count 7 ⌝ }
     ensures { λ r. ⌜ Appended (now (work .entry)) (now (work .exit)) to 8192 count r (bytes "\\right" ++ b ∷ []) ⌝ }
 {
-    let command = text::put_all(work, to, text::CAP, count, b"\\right");
-    text::put(work, to, text::CAP, command, b)
+    put_sized(work, to, count, b"\\right", b)
 }
 
 // Appends the `n` symbols at `from`, with tall groups sized, on every level.

@@ -6,7 +6,7 @@ ghost use mathlib.Core.Path.{_≡_};
 ghost use mathlib.Core.Bool.{_||_};
 ghost use mathlib.Core.List.{reverse};
 ghost use lib.ListN.{length, getD, drop};
-ghost use Rattle.spec.specs.Symbols.{bytes, starts, contains, scriptSign};
+ghost use Rattle.spec.specs.Symbols.{bytes, starts, contains};
 ghost use Rattle.spec.specs.Finish.{tall, scriptGroup, alreadySized};
 ghost use Rattle.search.specs.Search.{Closes};
 ghost use Rattle.symbols.specs.Places.{before};
@@ -26,12 +26,6 @@ pub fn has_delimiter(s: &[u8]) -> bool
     ensures { λ r. ⌜ r ≡ contains (bytes "(") (now (s .entry)) || contains (bytes "[") (now (s .entry)) ⌝ }
 {
     search::contains(s, b"(") | search::contains(s, b"[")
-}
-
-fn is_script(b: u8) -> bool
-    ensures { λ r. ⌜ r ≡ scriptSign b ⌝ }
-{
-    (b == b'_') | (b == b'^')
 }
 
 // Whether the word stands right before a place.
@@ -60,7 +54,7 @@ fn script_at(s: &[u8], i: usize) -> Found
     ensures { λ r. ⌜ Closes (drop (i + 1) (now (s .entry))) r (scriptGroup (getD (now (s .entry)) i 0) (drop (i + 1) (now (s .entry)))) ⌝ }
 {
     let next = i + 1;
-    if is_script(s[i]) & (search::symbol(s, next) == b'{') {
+    if symbols::is_script_sign(s[i]) & (search::symbol(s, next) == b'{') {
         return closing::matching_delimiter(&s[next..], b'{', b'}');
     }
     Found::Nothing

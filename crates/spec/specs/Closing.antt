@@ -6,7 +6,7 @@
 use mathlib.Core.Bool.{Bool, true, false, _&&_, _||_}
 use mathlib.Core.List.{List, [], _∷_}
 use mathlib.Core.Option.{Option, none, some}
-use Prim.Native.Nat.{ℕ, zero, suc}
+use Prim.Native.Nat.{ℕ, zero, suc, pred}
 use Prim.Native.Char.{code}
 use lib.Dec.{eqb}
 use Rattle.spec.specs.Symbols.{is, past}
@@ -21,6 +21,12 @@ sideOf false false = neither
 
 abbrev pub side : ℕ → ℕ → ℕ → Side
 side o c x = sideOf (eqb x o) (eqb x c)
+
+-- an opener goes one deeper, a closer comes one back
+abbrev pub depthAfter : Side → ℕ → ℕ
+depthAfter opens d = suc d
+depthAfter closes d = pred d
+depthAfter neither d = d
 
 module _ (o c : ℕ) where
   unfoldable pub close : ℕ → List ℕ → Option (List ℕ)

@@ -11,7 +11,7 @@ use Prim.Native.Char.{code}
 use lib.Dec.{eqb, ltb}
 use lib.ListN.{length, drop}
 use Rattle.spec.specs.Symbols.{bytes, is, solidus, digit, alnum, scriptSign, head, past, any, same, until, trimStart, trim, starts, ends}
-use Rattle.spec.specs.Closing.{Side, opens, closes, neither, side, close, level, orEnd}
+use Rattle.spec.specs.Closing.{opens, closes, neither, side, depthAfter, close, level, orEnd}
 use Rattle.spec.specs.Result.{Result, passed, refused, mostSymbols}
 
 -- ---- strip_outer_parens
@@ -53,12 +53,6 @@ inOperand x y z = operandSymbol y || (is "." y && (digit x && digit z))
 
 abbrev pub nameSymbol : ℕ → Bool
 nameSymbol x = operandSymbol x || (is "^" x || is "}" x)
-
-abbrev pub depthAfter : Side → ℕ → ℕ
-depthAfter opens d = suc d
-depthAfter closes zero = zero
-depthAfter closes (suc d) = d
-depthAfter neither d = d
 
 -- The name before a bracket, with its brace groups; d braces are to match, and one that has no match runs to the start of the text. The Rust's loop
 -- behind a group inside the loop takes nothing that the outer loop would not, so the three kinds of brackets have one definition.

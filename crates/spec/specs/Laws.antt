@@ -1,6 +1,10 @@
 -- Laws about the definitions: what code and theorems use of them, apart from what has to be believed.
 pub mod Booleans
 pub mod Symbols
+pub mod Names
+pub mod Ends
 pub mod Sweep
+pub mod Absent
+pub mod Held
 pub mod Attach
 pub mod Table

@@ -15,7 +15,7 @@ use Rattle.spec.specs.Result.{Result, passed, refused, _then_, mostSymbols}
 use Rattle.spec.specs.Held.{Held, Taken, withText, leaving, taking, takeOut, holdTexts, inFull, heldStage, up, counted, placeholder, marks, numbered, numberedRomans, restored, rustPutBack, putBack}
 use Rattle.spec.specs.Table.{Definition}
 use Rattle.spec.specs.Definitions.{applyDefinition, applyDefinitions, applyDefinitionsOutsideText}
-use Rattle.spec.specs.Laws.Booleans.{or-neither-left, or-neither-right}
+use Rattle.spec.specs.Laws.Booleans.{or-neither}
 use Rattle.stage_laws.specs.Each.{Each, done, more, Parts, none-left, part, each-by, each-append, each-take, each-reverse, each-replace}
 use Rattle.stage_laws.specs.Calls.{unmarked}
 use Rattle.stage_laws.specs.Stages.{Passes, pass, stop}
@@ -95,8 +95,8 @@ back-plain h o = restored-plain 0 (parts-end (h .romans) (h .text) (o .no-romans
 no-mark-left : {s : List ℕ} → any (λ x. eqb x textMark) s ≡ false → Each notRoman s → Each unmarked s
 no-mark-left e done = done
 no-mark-left e (more {x} {s} r a) =
-    let own = or-neither-left (eqb x textMark) (any (λ x. eqb x textMark) s) e in
-    more (ap not (ap (λ b. b || eqb x romanMark) own ∙ not-true (eqb x romanMark) r)) (no-mark-left (or-neither-right (eqb x textMark) (any (λ x. eqb x textMark) s) e) a)
+    let own = or-neither (eqb x textMark) (any (λ x. eqb x textMark) s) e in
+    more (ap not (ap (λ b. b || eqb x romanMark) (own .0) ∙ not-true (eqb x romanMark) r)) (no-mark-left (own .1) a)
 
 back-passes : (h : Held) → OnlyTexts h → Passes (putBack h)
 unfolding putBack
@@ -134,7 +134,7 @@ definitions-holding (d ∷ ds) h o = go (eqb (length (d .name)) 1) (definitions-
 
 -- ---- holding out
 unmarked-not-roman : (x : ℕ) → unmarked x ≡ true → notRoman x ≡ true
-unmarked-not-roman x e = ap not (or-neither-right (eqb x textMark) (eqb x romanMark) (not-true (eqb x textMark || eqb x romanMark) e))
+unmarked-not-roman x e = ap not (or-neither (eqb x textMark) (eqb x romanMark) (not-true (eqb x textMark || eqb x romanMark) e) .1)
 
 taken-parts : (name : List ℕ) (mark skip : ℕ) {s : List ℕ} → Each notRoman s → Parts notRoman (takeOut name mark skip s .blocks)
 unfolding takeOut

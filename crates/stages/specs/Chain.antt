@@ -16,7 +16,7 @@ use Rattle.spec.specs.Rows.{functionMappings, operatorReplacements}
 use Rattle.spec.specs.Words.{convertSqrt, replaceRows}
 use Rattle.spec.specs.Table.{definitions}
 use Rattle.spec.specs.Pipeline.{markSolidus, onDisplay, definitionsOr}
-use Rattle.spec.specs.Laws.Booleans.{or-neither-left, or-neither-right}
+use Rattle.spec.specs.Laws.Booleans.{or-neither}
 use Rattle.text.specs.Stage.{shown, Ready, Answered, Staged, answered-ready, answered-then, staged-then}
 use Rattle.text.specs.declared.Progress.{Progress}
 use Rattle.text.specs.declared.Progress.the-variants.{Text, Refused}
@@ -38,7 +38,7 @@ each-bare (more {x} e a) = rw (not-true (isMark x) e, any) (each-bare a)
 
 bare-each : (s : List ℕ) → hasMark s ≡ false → Each unmarked s
 bare-each [] e = done
-bare-each (x ∷ s) e = more (ap not (or-neither-left (isMark x) (hasMark s) e)) (bare-each s (or-neither-right (isMark x) (hasMark s) e))
+bare-each (x ∷ s) e = let parts = or-neither (isMark x) (hasMark s) e in more (ap not (parts .0)) (bare-each s (parts .1))
 
 passes-bare : {r : Result (List ℕ)} → Passes r → Bare r
 passes-bare (pass {s} a) = record { unmarked = λ t e. let same : s ≡ t = cc in subst (λ u. hasMark u ≡ false) same (each-bare a) }

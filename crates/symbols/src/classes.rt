@@ -1,8 +1,16 @@
-// Classes of symbols. Each is one expression with no branch; `is_in` chooses among them.
+// Classes of symbols, and a symbol as a number. Each is one expression with no branch; `is_in` chooses among them.
 use super::Class;
 ghost use mathlib.Core.Path.{_≡_};
-ghost use Rattle.spec.specs.Symbols.{between, blank, letter, digit, alnum, wordly, foreign};
+ghost use Prim.Native.Nat.{_<_};
+ghost use Rattle.spec.specs.Symbols.{between, blank, letter, digit, alnum, wordly, foreign, scriptSign};
 ghost use Rattle.symbols.specs.Runs.{member};
+
+// A symbol as a number. A caller that asks so need not show that a byte fits.
+pub fn wide(b: u8) -> usize
+    ensures { λ r. ⌜ (r ≡ b) × (r < 256) ⌝ }
+{
+    b as usize
+}
 
 fn is_between(low: u8, high: u8, b: u8) -> bool
     ensures { λ r. ⌜ r ≡ between low high b ⌝ }
@@ -40,6 +48,13 @@ pub fn is_word(b: u8) -> bool
     ensures { λ r. ⌜ r ≡ wordly b ⌝ }
 {
     is_alnum(b) | (b == b'_')
+}
+
+// `_` or `^`.
+pub fn is_script_sign(b: u8) -> bool
+    ensures { λ r. ⌜ r ≡ scriptSign b ⌝ }
+{
+    (b == b'_') | (b == b'^')
 }
 
 // Number 1: a byte that no formula has.

@@ -7,10 +7,12 @@ pub use classes::is_alnum;
 pub use classes::is_blank;
 pub use classes::is_digit;
 pub use classes::is_letter;
+pub use classes::is_script_sign;
 pub use classes::is_word;
 pub use runs::all_in;
 pub use runs::run_end;
 pub use runs::run_start;
+pub use classes::wide;
 pub use spans::skip_end;
 pub use spans::trim;
 

@@ -1,6 +1,6 @@
 -- `byLength` as the enumeration has it: the records of the longest names, then those of the next length, and so on. Assumes nothing.
 use mathlib.Core.Path.{_≡_, refl, sym, ap, ap₂, _∙_}
-use mathlib.Core.Bool.{Bool, true, false, _||_, false≢true}
+use mathlib.Core.Bool.{Bool, true, false, _||_}
 use mathlib.Core.List.{List, [], _∷_, _++_}
 use mathlib.Core.Option.{some}
 use Prim.Native.Nat.{ℕ, zero, suc, max, _≤_, _<_}
@@ -10,6 +10,8 @@ use lib.Dec.{eqb}
 use lib.ListN.{length}
 use borrow.Author.Tests.{eqb-true, eqb-false, le-leb, lt-leb}
 use Rattle.spec.specs.Table.{Definition, definitions, faultyName, faultyLatex, named, faulty, inserted, byLength}
+use Rattle.spec.specs.Laws.Booleans.{or-neither}
+use Rattle.spec.specs.Laws.Table.{sound-name-some}
 use Rattle.table.specs.Listed.{listed, listed-records}
 use Rattle.table.specs.Sound.{definitions-some}
 use Rattle.table.specs.Order.{size, ofLength, of-length-same, of-length-other, downFrom, remaining, longest, Begins}
@@ -87,24 +89,15 @@ longest-least : (m : ℕ) (ds : List Definition) → m ≤ longest m ds
 longest-least m [] = omega arith
 longest-least m (d ∷ ds) = let h = longest-least (max m (size d)) ds in omega arith
 
-or-parts : (a b : Bool) → a || b ≡ false → (a ≡ false) × (b ≡ false)
-or-parts false b e = (refl, e)
-or-parts true b e = absurd (false≢true (sym e))
-
--- no name of a sound table is empty
-faulty-empty : (name : List ℕ) → faultyName name ≡ false → 0 < length name
-faulty-empty [] e = absurd (false≢true (sym e))
-faulty-empty (x ∷ name) e = omega arith
-
 pub sized-sound : (m n : ℕ) (ds : List Definition) → faulty ds ≡ false → longest m ds ≤ n → Sized n ds
 unfolding faulty
 sized-sound m n [] e h = none-left
 sized-sound m n (d ∷ ds) e h =
-    let own = or-parts (faultyName (d .name)) (faultyLatex (d .latex) || (named (d .name) ds || faulty ds)) e in
-    let others = or-parts (faultyLatex (d .latex)) (named (d .name) ds || faulty ds) (own .1) in
-    let later = or-parts (named (d .name) ds) (faulty ds) (others .1) in
+    let own = or-neither (faultyName (d .name)) (faultyLatex (d .latex) || (named (d .name) ds || faulty ds)) e in
+    let others = or-neither (faultyLatex (d .latex)) (named (d .name) ds || faulty ds) (own .1) in
+    let later = or-neither (named (d .name) ds) (faulty ds) (others .1) in
     let least = longest-least (max m (size d)) ds in
-    one-more {d = d} (faulty-empty (d .name) (own .0)) (omega arith) (sized-sound (max m (size d)) n ds (later .1) h)
+    one-more {d = d} (sound-name-some (d .name) (own .0)) (omega arith) (sized-sound (max m (size d)) n ds (later .1) h)
 
 -- ---- the start of the order
 pub begins-order : (s : List ℕ) (c : Cursor) (ds : List Definition) → Begins s c → definitions s ≡ some ds → remaining s c ≡ byLength ds

@@ -3,7 +3,6 @@ mod order;
 
 pub use order::Cursor;
 pub use order::Step;
-ghost use mathlib.Core.Path.{_≡_};
 ghost use Rattle.table.specs.Reading.{Reads};
 
 // A record's places in the table: the name lies from `name` to `latex`, the LaTeX from there to `next`, where the next record begins.
@@ -20,12 +19,6 @@ pub enum Reading {
     PastEnd,
 }
 
-fn wide(b: u8) -> usize
-    ensures { λ r. ⌜ r ≡ b ⌝ }
-{
-    b as usize
-}
-
 // The record at a place. Its header is 16 bits, most significant first: 6 of the name's length, 10 of the LaTeX's.
 pub fn record_at(table: &[u8], at: usize) -> Reading
     ensures { λ r. ⌜ Reads (now (table .entry)) at r ⌝ }
@@ -36,8 +29,8 @@ pub fn record_at(table: &[u8], at: usize) -> Reading
     if table.len() - at < 2 {
         return Reading::PastEnd;
     }
-    let high = wide(table[at]);
-    let low = wide(table[at + 1]);
+    let high = symbols::wide(table[at]);
+    let low = symbols::wide(table[at + 1]);
     let name_length = high / 4;
     let latex_length = (high % 4) * 256 + low;
     let name = at + 2;

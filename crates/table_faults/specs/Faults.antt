@@ -3,16 +3,16 @@
 --     faultyFirst      a record has a fault of its own, or the name of one of those behind it
 -- Assumes nothing.
 use mathlib.Core.Path.{_≡_, refl, ap, ap₂, _∙_}
-use mathlib.Core.Bool.{Bool, true, false, not, cond, _&&_, _||_, and-comm, and-false}
+use mathlib.Core.Bool.{Bool, true, false, not, cond, _&&_, _||_}
 use mathlib.Core.List.{List, [], _∷_}
 use mathlib.Core.Option.{Option, none, some, Option·map}
-use Prim.Native.Nat.{ℕ, suc, _+_, _-_, _≤_, _<_}
+use Prim.Native.Nat.{ℕ, suc, _+_, _≤_, _<_}
 use native.Mathlib.Nat.{zero-add}
 use native.Mathlib.Omega.{arith}
-use lib.Dec.{ltb, eqb}
+use lib.Dec.{ltb}
 use lib.ListN.{length, getD, drop}
 use borrow.Author.Tests.{lt-ltb, le-ltb}
-use Rattle.spec.specs.Symbols.{letter, alnum, all, same, starts}
+use Rattle.spec.specs.Symbols.{letter, alnum, all}
 use Rattle.spec.specs.Laws.Symbols.{head-drop}
 use Rattle.spec.specs.Table.{Definition, mostBytes, mostRecords, records, faultyName, faultyLatex, named, faulty, whole, definitions}
 use Rattle.table.specs.Reading.{readAt, recordsBy, records-at, definitionAt}
@@ -34,19 +34,6 @@ faulty-start name e = ap (λ t. not (t && all alnum name)) (ap letter (head-drop
 
 pub faulty-within : (name : List ℕ) → letter (getD name 0 0) ≡ true → faultyName name ≡ not (all alnum name)
 faulty-within name e = ap (λ t. not (t && all alnum name)) (ap letter (head-drop name 0) ∙ e)
-
--- ---- equal texts
-pub same-other : (s t : List ℕ) → (length s ≡ length t → ⊥) → same s t ≡ false
-same-other [] [] h = absurd (h refl)
-same-other [] (y ∷ t) h = refl
-same-other (x ∷ s) [] h = refl
-same-other (x ∷ s) (y ∷ t) h = rw (same-other s t (λ e. h (ap suc e))) (and-false (eqb x y))
-
-pub same-starts : (s t : List ℕ) → length s ≡ length t → same s t ≡ starts t s
-same-starts [] [] h = refl
-same-starts [] (y ∷ t) h = absurd (omega arith)
-same-starts (x ∷ s) [] h = absurd (omega arith)
-same-starts (x ∷ s) (y ∷ t) h = rw (same-starts s t (omega arith)) (and-comm (eqb x y) (starts t s))
 
 -- ---- how many records there are
 module _ (s : List ℕ) (at c : ℕ) where

@@ -4,7 +4,6 @@ use table::Reading;
 use table::Record;
 use table::record_at;
 ghost use mathlib.Core.Path.{_≡_};
-ghost use Rattle.spec.specs.Symbols.{same};
 ghost use Rattle.spec.specs.Table.{records, definitions, faultyName, faultyLatex, named, faulty};
 ghost use Rattle.table.specs.Reading.{Lies, definitionAt};
 ghost use Rattle.table.specs.Listed.{listed};
@@ -112,18 +111,9 @@ fn is_named(table: &[u8], from: usize, name: &[u8]) -> bool
         };
         let start = found.name;
         let end = found.latex;
-        if is_same(name, &table[start..end]) {
+        if search::is_same(name, &table[start..end]) {
             return true;
         }
         at = found.next;
     }
-}
-
-fn is_same(a: &[u8], b: &[u8]) -> bool
-    ensures { λ r. ⌜ r ≡ same (now (a .entry)) (now (b .entry)) ⌝ }
-{
-    if a.len() != b.len() {
-        return false;
-    }
-    search::starts_with(a, b)
 }

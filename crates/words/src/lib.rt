@@ -35,7 +35,7 @@ pub fn convert_words(work: &mut [u8], text: Progress) -> Progress
     };
     let held = blocks::hold_both(work, from, n);
     let outside = Progress::Text(held.at, held.len);
-    let greek = replacements::apply_rows(work, outside, held.extra, Kind::Greek, &tables::GREEK);
+    let greek = replacements::apply_rows(work, outside, held.extra, Kind::Greek, &rows::GREEK);
     let words = replacements::apply_rows(work, greek, held.extra, Kind::Word, &tables::WORDS);
     blocks::put_all_back(work, words, held.texts, held.used)
 }

@@ -1,8 +1,8 @@
 -- `binom::convert_binom` meets its contract: a name that is nowhere leaves the text as it is, and else the rewritten text is judged. Assumes nothing.
-use Rattle.binom.specs.Binom.{binom-waits}
 use Rattle.text.specs.Due.{staged-absent, occurs, staged-appended}
 use Rattle.spec.specs.Calls.{convertBinom}
 use Rattle.spec.specs.Laws.Sweep.{sweep-absent}
+use Rattle.spec.specs.Laws.Absent.{binom-waits}
 use borrow.Author.Needs.{needs}
 use Rattle.binom.proofs.convert_binom.Statement.{statement}
 use Rattle.binom.proofs.convert_binom.Tie as tie

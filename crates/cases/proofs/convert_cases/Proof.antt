@@ -8,7 +8,8 @@ use Rattle.spec.specs.Calls.{convertCases}
 use Rattle.symbols.specs.Parts.{length-part}
 use Rattle.text.specs.Due.{occurs, staged-absent, staged-kept, staged-appended}
 use Rattle.delimiters.specs.First.{due-unclosed, due-first}
-use Rattle.cases.specs.Cases.{cases-absent, cases-unclosed, cases-parts}
+use Rattle.cases.specs.Cases.{cases-unclosed, cases-parts}
+use Rattle.spec.specs.Laws.Absent.{cases-absent}
 use Rattle.cases.proofs.convert_cases.Statement.{statement}
 use Rattle.cases.proofs.convert_cases.Tie as tie
 

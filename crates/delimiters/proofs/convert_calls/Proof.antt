@@ -1,8 +1,9 @@
 -- `delimiters::convert_calls` meets its contract: a name that is nowhere leaves the text as it is, and else the rewritten text is judged. Assumes nothing.
-use Rattle.delimiters.specs.Delimiters.{delimited, calling-waits}
+use Rattle.delimiters.specs.Delimiters.{delimited}
 use Rattle.text.specs.Due.{staged-absent, occurs, staged-appended}
 use Rattle.spec.specs.Calls.{convertCalls}
 use Rattle.spec.specs.Laws.Sweep.{sweep-absent}
+use Rattle.spec.specs.Laws.Absent.{calling-waits}
 use borrow.Author.Needs.{needs}
 use Rattle.delimiters.proofs.convert_calls.Statement.{statement}
 use Rattle.delimiters.proofs.convert_calls.Tie as tie

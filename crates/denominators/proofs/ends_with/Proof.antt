@@ -1,5 +1,5 @@
 -- `denominators::ends_with` meets its contract: the last symbols are the pattern. Assumes nothing.
-use Rattle.denominators.specs.Ends.{ends-front}
+use Rattle.spec.specs.Laws.Ends.{ends-front}
 use Rattle.spec.specs.Symbols.{starts}
 use Rattle.symbols.specs.Parts.{rest-of}
 use borrow.Author.Needs.{needs}

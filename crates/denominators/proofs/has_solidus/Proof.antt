@@ -1,6 +1,7 @@
 -- `denominators::has_solidus` meets its contract: the mark is a pattern of one symbol. Assumes nothing.
-use Rattle.denominators.specs.After.{isSome, any-found}
+use Rattle.denominators.specs.After.{any-found}
 use Rattle.spec.specs.Symbols.{solidus}
+use Rattle.spec.specs.Laws.Symbols.{isSome}
 use Rattle.search.specs.Search.{finds-at, finds-nothing}
 use borrow.Author.Needs.{needs}
 use mathlib.Core.Path.{sym, ap, _∙_}

@@ -4,8 +4,8 @@ use mathlib.Core.Path.{_≡_, refl, sym, _∙_}
 use native.Mathlib.Omega.{arith}
 use borrow.Author.Tests.{not-true, not-false}
 use lib.ListN.{length, getD}
-use Rattle.lost_blocks.specs.Reading.{Reads}
-use Rattle.lost_blocks.specs.Reading.{reads-mark, reads-other, reads-large, reads-digit, reads-end, digit-range}
+use Rattle.spec.specs.Laws.Symbols.{digit-range}
+use Rattle.lost_blocks.specs.Reading.{Reads, reads-mark, reads-other, reads-large, reads-digit, reads-end}
 use Rattle.lost_blocks.proofs.digits.Statement.{statement}
 use Rattle.lost_blocks.proofs.digits.Tie as tie
 

@@ -1,7 +1,7 @@
 -- `quotes::convert_text_quotes` meets its contract: a text without quotes is left as it is, and else the rewritten text is judged. Assumes nothing.
-use Rattle.quotes.specs.Quotes.{quotes-absent}
 use Rattle.text.specs.Due.{staged-absent, occurs, staged-rewritten}
 use Rattle.spec.specs.Quotes.{convertTextQuotes}
+use Rattle.spec.specs.Laws.Absent.{quotes-absent}
 use borrow.Author.Needs.{needs}
 use Rattle.quotes.proofs.convert_text_quotes.Statement.{statement}
 use Rattle.quotes.proofs.convert_text_quotes.Tie as tie

@@ -3,8 +3,8 @@ use mathlib.Core.Path.{sym, subst₂}
 use Prim.Native.Nat.{_+_, _*_}
 use native.Mathlib.Omega.{arith}
 use Rattle.entries.specs.Bounded.{Fair}
-use Rattle.replacements.specs.Rows.{rowAt, row-within, typst-fits, latex-fits, row-fair, text-shown}
-use Rattle.replacements.specs.Kinds.{row-applied}
+use Rattle.rows.specs.Rows.{rowAt, row-within, typst-fits, latex-fits, text-shown}
+use Rattle.replacements.specs.Kinds.{row-fair, row-applied}
 use borrow.Author.Needs.{needs}
 use Rattle.replacements.proofs.apply_row.Statement.{statement}
 use Rattle.replacements.proofs.apply_row.Tie as tie

@@ -7,7 +7,7 @@ use lib.ListN.{length}
 use Rattle.text.specs.Stage.{answered-ready}
 use Rattle.entries.specs.Sized.{staged-alike, Remaining, remaining-none, remaining-ready, remaining-more, remaining-all}
 use Rattle.entries.specs.Seen.{SeenIn, marked-seen}
-use Rattle.replacements.specs.Rows.{rowAt, rowsFrom, rowsOf, fair-at, rows-all}
+use Rattle.rows.specs.Rows.{rowAt, rowsFrom, rowsOf, fair-at, rows-all}
 use Rattle.replacements.specs.Kinds.{ruleOf, sizedRows, row-nowhere, rows-step, rows-end}
 use Rattle.replacements.proofs.apply_rows.Statement.{statement}
 use Rattle.replacements.proofs.apply_rows.Tie as tie

@@ -3,7 +3,7 @@ use mathlib.Core.Path.{ap, _∙_}
 use Prim.Native.Nat.{_*_}
 use native.Mathlib.Omega.{arith}
 use Rattle.entries.specs.Seen.{nowhere}
-use Rattle.replacements.specs.Rows.{row-within, typst-fits, text-shown}
+use Rattle.rows.specs.Rows.{row-within, typst-fits, text-shown}
 use borrow.Author.Needs.{needs}
 use Rattle.replacements.proofs.is_row_nowhere.Statement.{statement}
 use Rattle.replacements.proofs.is_row_nowhere.Tie as tie

@@ -57,9 +57,6 @@ Inv-loop work₀ from n to count end total₀ i₀ work total i =
 abbrev μ-loop : size-lts.MeasureT-loop
 μ-loop work₀ from n to count end total₀ i₀ work total i = n - i
 
-add-end : (t : ℕ) → size-lts.Need-add-end (callees t) (size-at t) size.Post Inv-loop μ-loop
-add-end t c = omega arith
-
 loop-holds : (t : ℕ) → size-lts.Need-loop-holds (callees t) (size-at t) size.Post Inv-loop μ-loop
 loop-holds t c =
     let a = c .before .args in
@@ -71,26 +68,11 @@ loop-holds t c =
       subst (λ r. Filling (a .work .now) (a .work .now) (a .to) 8192 (a .count) (a .count) r (sizeDelimitersToContent s)) (sym (sized-first s)) (filling-none _ _ _ _ _),
     )
 
-add-at : (t : ℕ) → size-lts.Need-add-at (callees t) (size-at t) size.Post Inv-loop μ-loop
-add-at t c = omega arith
-
-sub-piece-at : (t : ℕ) → size-lts.Need-sub-piece-at (callees t) (size-at t) size.Post Inv-loop μ-loop
-sub-piece-at t c = omega arith
-
-part-piece-at-start : (t : ℕ) → size-lts.Need-part-piece-at-start (callees t) (size-at t) size.Post Inv-loop μ-loop
-part-piece-at-start t c = omega arith
-
-part-piece-at-end : (t : ℕ) → size-lts.Need-part-piece-at-end (callees t) (size-at t) size.Post Inv-loop μ-loop
-part-piece-at-end t c = omega arith
-
 piece-at-requires : (t : ℕ) → size-lts.Need-piece-at-requires (callees t) (size-at t) size.Post Inv-loop μ-loop
 piece-at-requires t c κs =
     let at-start : size-lts.Start (callees t) (size-at t) size.Post Inv-loop μ-loop = search in
     let p = at-start .pre .1 in
     (simp (length-take, length-drop) (omega arith), simp (length-take, length-drop) (omega arith))
-
-enum-known-k : (t : ℕ) → size-lts.Need-enum-known-k (callees t) (size-at t) size.Post Inv-loop μ-loop
-enum-known-k t c = search needs
 
 -- the symbols that are copied
 keeps : (t : ℕ) (c : size-lts.After-known-told (callees t) (size-at t) size.Post Inv-loop μ-loop)
@@ -135,12 +117,6 @@ loop-again t c =
     let long = appended-long a in
     (f .1, refl, omega arith, omega arith, kept-more (at-loop .loop .i) (at-start .pre .1) (at-loop .loop .inv .4) _ (at-piece-at .piece-at .ensures) (at-k .k .given .1) a)
 
-enum-known-k-2 : (t : ℕ) → size-lts.Need-enum-known-k-2 (callees t) (size-at t) size.Post Inv-loop μ-loop
-enum-known-k-2 t c = search needs
-
-slice-read-b : (t : ℕ) → size-lts.Need-slice-read-b (callees t) (size-at t) size.Post Inv-loop μ-loop
-slice-read-b t c = omega arith
-
 put-left-requires : (t : ℕ) → size-lts.Need-put-left-requires (callees t) (size-at t) size.Post Inv-loop μ-loop
 put-left-requires t c κs =
     let at-start : size-lts.Start (callees t) (size-at t) size.Post Inv-loop μ-loop = search in
@@ -180,9 +156,6 @@ size-requires t c κs =
         small = omega arith;
       },
     )
-
-closer-of-requires : (t : ℕ) → size-lts.Need-closer-of-requires (callees t) (size-at t) size.Post Inv-loop μ-loop
-closer-of-requires t c κs = search needs
 
 put-right-requires : (t : ℕ) → size-lts.Need-put-right-requires (callees t) (size-at t) size.Post Inv-loop μ-loop
 put-right-requires t c κs =
@@ -260,25 +233,25 @@ pub +size-spec : {M : Type 1} → statement M
     size.Post
     Inv-loop
     μ-loop
-    (add-end t)
+    (λ c. omega arith)
     (loop-holds t)
-    (add-at t)
-    (sub-piece-at t)
-    (part-piece-at-start t)
-    (part-piece-at-end t)
+    (λ c. omega arith)
+    (λ c. omega arith)
+    (λ c. omega arith)
+    (λ c. omega arith)
     (piece-at-requires t)
-    (enum-known-k t)
+    (λ c. search needs)
     (copy-requires t)
     (add-i t)
     (loop-less t)
     (loop-again t)
-    (enum-known-k-2 t)
-    (slice-read-b t)
+    (λ c. search needs)
+    (λ c. omega arith)
     (put-left-requires t)
     (add-inside t)
     (add-size t)
     (size-requires t)
-    (closer-of-requires t)
+    (λ c κs. search needs)
     (put-right-requires t)
     (add-i-2 t)
     (add-i-3 t)

@@ -1,6 +1,10 @@
--- Laws of tests that are joined: what a test says of its parts, and the parts of it. Assumes nothing.
+-- Laws of tests: one that does not hold, and what a joined test says of its parts and the parts of it. Assumes nothing.
 use mathlib.Core.Path.{_≡_, refl, sym}
 use mathlib.Core.Bool.{Bool, true, false, _&&_, _||_, false≢true}
+
+pub untrue : (b : Bool) → (b ≡ true → ⊥) → b ≡ false
+untrue true h = absurd (h refl)
+untrue false h = refl
 
 pub and-left : (a b : Bool) → a && b ≡ true → a ≡ true
 and-left true b e = refl
@@ -9,6 +13,9 @@ and-left false b e = e
 pub and-right : (a b : Bool) → a && b ≡ true → b ≡ true
 and-right true b e = e
 and-right false b e = absurd (false≢true e)
+
+pub and-parts : (a b : Bool) → a && b ≡ true → (a ≡ true) × (b ≡ true)
+and-parts a b e = (and-left a b e, and-right a b e)
 
 pub and-both : {a b : Bool} → a ≡ true → b ≡ true → a && b ≡ true
 and-both p q = rw (p, q)
@@ -24,10 +31,6 @@ or-split false b e f g = g e
 pub or-left : {a : Bool} (b : Bool) → a ≡ true → a || b ≡ true
 or-left b e = rw e
 
-pub or-neither-left : (a b : Bool) → a || b ≡ false → a ≡ false
-or-neither-left true b e = e
-or-neither-left false b e = refl
-
-pub or-neither-right : (a b : Bool) → a || b ≡ false → b ≡ false
-or-neither-right true b e = absurd (false≢true (sym e))
-or-neither-right false b e = e
+pub or-neither : (a b : Bool) → a || b ≡ false → (a ≡ false) × (b ≡ false)
+or-neither true b e = absurd (false≢true (sym e))
+or-neither false b e = (refl, e)

@@ -2,18 +2,20 @@
 --     swept          the rest of a sweep, from place i on
 --     sweep-same     two rules that agree at every place give the same text
 --     sweep-absent   a rule that copies wherever its pattern does not start leaves a text without the pattern as it is
+--     reached-absent and comes to no place where a test holds that waits for the pattern too
 -- Assumes nothing.
 use mathlib.Core.Path.{_≡_, refl, ap, ap₂, _∙_}
-use mathlib.Core.Bool.{Bool, true, false}
+use mathlib.Core.Bool.{Bool, false, _||_}
 use mathlib.Core.List.{List, [], _∷_, _++_}
-use mathlib.Core.Option.{Option, none, some}
+use mathlib.Core.Option.{none}
 use Prim.Native.Nat.{ℕ, zero, suc, _+_, _<_, _≤_}
 use native.Mathlib.Nat.{add-suc, not-suc-le-zero}
 use native.Mathlib.Omega.{arith}
 use lib.ListN.{length, getD, drop, length-drop, drop-of-length-le}
 use lib.Seq.{drop-drop, getD-drop}
 use Rattle.spec.specs.Symbols.{starts, find}
-use Rattle.spec.specs.Sweep.{Turn, Rule, kept, sweep}
+use Rattle.spec.specs.Sweep.{Turn, Rule, kept, sweep, reached}
+use Rattle.spec.specs.Laws.Symbols.{find-nowhere}
 
 unfoldable pub swept : Rule → List ℕ → ℕ → List ℕ
 swept rule s i = sweep rule (getD (0 ∷ s) i 0) 0 (drop i s)
@@ -63,9 +65,17 @@ pub record Waits (pattern : List ℕ) (rule : Rule) : Type 0 where
 pub sweep-absent : {pattern : List ℕ} {rule : Rule} → Waits pattern rule → (s : List ℕ) (before : ℕ) → find pattern s ≡ none → sweep rule before 0 s ≡ s
 unfolding sweep find
 sweep-absent waits [] before e = refl
-sweep-absent {pattern} {rule} waits (x ∷ s) before e = go (starts pattern (x ∷ s)) refl (sweep-absent waits s x) e
-  where
-    go : (t : Bool) → starts pattern (x ∷ s) ≡ t → (find pattern s ≡ none → sweep rule x 0 s ≡ s) → _≡_ {A = Option (List ℕ)} (elim t [ true ↦ some (x ∷ s) | false ↦ find pattern s ]) none
-        → rule before (x ∷ s) .fresh ++ sweep rule x (rule before (x ∷ s) .more) s ≡ x ∷ s
-    go true b rest e = let z : _≡_ {A = ℕ} 0 1 = cc in absurd (omega arith)
-    go false b rest e = ap (λ (t : Turn). t .fresh ++ sweep rule x (t .more) s) (waits .copies before (x ∷ s) b) ∙ ap (λ l. x ∷ l) (rest e)
+sweep-absent {pattern} {rule} waits (x ∷ s) before e =
+    let here = find-nowhere pattern x s e in
+    ap (λ (t : Turn). t .fresh ++ sweep rule x (t .more) s) (waits .copies before (x ∷ s) (here .0)) ∙ ap (λ l. x ∷ l) (sweep-absent waits s x (here .1))
+
+-- a test that does not hold where the pattern does not stand is never met
+pub reached-absent :
+    {pattern : List ℕ} {rule : Rule} (test : List ℕ → Bool) → Waits pattern rule → ((s : List ℕ) → starts pattern s ≡ false → test s ≡ false)
+    → (s : List ℕ) (before : ℕ) → find pattern s ≡ none → reached test rule before 0 s ≡ false
+unfolding reached find
+reached-absent test waits fails [] before e = refl
+reached-absent {pattern} {rule} test waits fails (x ∷ s) before e =
+    let here = find-nowhere pattern x s e in
+    ap₂ (λ (a : Bool) (t : Turn). a || reached test rule x (t .more) s) (fails (x ∷ s) (here .0)) (waits .copies before (x ∷ s) (here .0))
+    ∙ reached-absent test waits fails s x (here .1)

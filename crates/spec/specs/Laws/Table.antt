@@ -1,12 +1,14 @@
--- There is an order of the definitions in which longer names come first: `byLength` is one. Assumes nothing.
+-- There is an order of the definitions in which longer names come first: `byLength` is one. And a sound name is not empty. Assumes nothing.
 use mathlib.Core.Path.{_≡_, refl, sym, ap, subst}
-use mathlib.Core.Bool.{Bool, true, false, _&&_, false≢true}
+use mathlib.Core.Bool.{Bool, true, false, true≢false}
 use mathlib.Core.List.{List, [], _∷_, _++_}
+use Prim.Native.Nat.{ℕ, _<_}
 use native.Mathlib.Omega.{arith}
 use lib.Dec.{leb}
 use lib.ListN.{length}
 use borrow.Author.Tests.{le-leb, leb-false}
-use Rattle.spec.specs.Table.{Definition, Rearranged, nothing, put, Order, longerFirst, inserted, byLength}
+use Rattle.spec.specs.Laws.Booleans.{and-parts}
+use Rattle.spec.specs.Table.{Definition, Rearranged, nothing, put, Order, longerFirst, inserted, byLength, faultyName}
 
 abbrev fits : Definition → Definition → Bool
 fits d e = leb (length (e .name)) (length (d .name))
@@ -34,10 +36,6 @@ rearranged-by-length (d ∷ ds) =
     subst (Rearranged (d ∷ ds)) (s .placed) (put d (s .before) (s .behind) (subst (Rearranged ds) (sym (s .whole)) (rearranged-by-length ds)))
 
 -- ---- longer names first
-and-parts : (a b : Bool) → a && b ≡ true → (a ≡ true) × (b ≡ true)
-and-parts true b e = (refl, e)
-and-parts false b e = absurd (false≢true e)
-
 -- e is no shorter than the first of ds
 abbrev leads : Definition → List Definition → Bool
 leads e [] = true
@@ -77,3 +75,8 @@ longer-first-by-length (d ∷ ds) = longer-first-inserted d (byLength ds) (longe
 
 pub by-length-order : (ds : List Definition) → Order ds (byLength ds)
 by-length-order ds = record { rearranged = rearranged-by-length ds; longer-first = longer-first-by-length ds }
+
+-- ---- names
+pub sound-name-some : (name : List ℕ) → faultyName name ≡ false → 0 < length name
+sound-name-some [] e = absurd (true≢false e)
+sound-name-some (x ∷ name) e = omega arith

@@ -5,41 +5,12 @@ use Rattle.text.specs.Stage.{answered-ready, answered-then}
 use Rattle.stage_laws.specs.Stages.{before-definitions-passes}
 use Rattle.stage_laws.specs.Outside.{outside-passes}
 use Rattle.stages.specs.Chain.{staged-ready, first-stages, bare-after, fit-after}
+use borrow.Author.Needs.{needs}
 use Rattle.stages.proofs.convert.Statement.{statement}
 use Rattle.stages.proofs.convert.Tie as tie
 
-mark-solidus-requires : tie.Need-mark-solidus-requires
-mark-solidus-requires c κs = c .before .before .before .pre .0
-
-convert-op-requires : tie.Need-convert-op-requires
-convert-op-requires c κs =
-    let at-mark-solidus-arg : tie.After-mark-solidus-arg = search in
-    staged-ready (mark-solidus-requires at-mark-solidus-arg κs) (c .before .before .before .mark-solidus .ensures)
-
-convert-cases-requires : tie.Need-convert-cases-requires
-convert-cases-requires c κs =
-    let at-convert-op-arg : tie.After-convert-op-arg = search in
-    staged-ready (convert-op-requires at-convert-op-arg κs) (c .before .before .before .convert-op .ensures)
-
-convert-attach-requires : tie.Need-convert-attach-requires
-convert-attach-requires c κs =
-    let at-convert-cases-arg : tie.After-convert-cases-arg = search in
-    staged-ready (convert-cases-requires at-convert-cases-arg κs) (c .before .before .before .convert-cases .ensures)
-
-convert-bb-requires : tie.Need-convert-bb-requires
-convert-bb-requires c κs =
-    let at-convert-attach-arg : tie.After-convert-attach-arg = search in
-    answered-ready (convert-attach-requires at-convert-attach-arg κs) (c .before .before .before .convert-attach .ensures .0)
-
-convert-bold-requires : tie.Need-convert-bold-requires
-convert-bold-requires c κs =
-    let at-convert-bb-arg : tie.After-convert-bb-arg = search in
-    staged-ready (convert-bb-requires at-convert-bb-arg κs) (c .before .before .before .convert-bb .ensures)
-
 convert-binom-requires : tie.Need-convert-binom-requires
-convert-binom-requires c κs =
-    let at-convert-bold-arg : tie.After-convert-bold-arg = search in
-    staged-ready (convert-bold-requires at-convert-bold-arg κs) (c .before .before .before .convert-bold .ensures)
+convert-binom-requires c κs = search needs
 
 convert-upright-requires : tie.Need-convert-upright-requires
 convert-upright-requires c κs =
@@ -128,12 +99,12 @@ pub convert-spec : {M : Type 1} → statement M
 convert-spec =
     tie.close
     (tie.spec
-    mark-solidus-requires
-    convert-op-requires
-    convert-cases-requires
-    convert-attach-requires
-    convert-bb-requires
-    convert-bold-requires
+    (λ c κs. search needs)
+    (λ c κs. search needs)
+    (λ c κs. search needs)
+    (λ c κs. search needs)
+    (λ c κs. search needs)
+    (λ c κs. search needs)
     convert-binom-requires
     convert-upright-requires
     convert-floor-ceil-abs-requires

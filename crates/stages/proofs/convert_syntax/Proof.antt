@@ -4,44 +4,19 @@ use Rattle.spec.specs.Pipeline.{convertSyntax}
 use Rattle.text.specs.Stage.{answered-ready, answered-then}
 use Rattle.stage_laws.specs.Stages.{before-words-passes}
 use Rattle.stages.specs.Chain.{staged-ready, stages-before-words, unmarked-after}
+use borrow.Author.Needs.{needs}
 use Rattle.stages.proofs.convert_syntax.Statement.{statement}
 use Rattle.stages.proofs.convert_syntax.Tie as tie
-
-convert-sqrt-requires : tie.Need-convert-sqrt-requires
-convert-sqrt-requires c κs = c .before .before .pre .0
-
-convert-functions-requires : tie.Need-convert-functions-requires
-convert-functions-requires c κs =
-    let at-convert-sqrt-arg : tie.After-convert-sqrt-arg = search in
-    staged-ready (convert-sqrt-requires at-convert-sqrt-arg κs) (c .before .before .before .convert-sqrt .ensures)
-
-convert-operators-requires : tie.Need-convert-operators-requires
-convert-operators-requires c κs =
-    let at-convert-functions-arg : tie.After-convert-functions-arg = search in
-    staged-ready (convert-functions-requires at-convert-functions-arg κs) (c .before .before .before .convert-functions .ensures)
 
 convert-words-requires : tie.Need-convert-words-requires
 convert-words-requires c κs =
     let at-convert-operators = c .before .before .before in
-    let at-convert-operators-arg : tie.After-convert-operators-arg = search in
     let at-convert-functions : tie.After-convert-functions = search in
     let at-convert-sqrt : tie.After-convert-sqrt = search in
-    (staged-ready (convert-operators-requires at-convert-operators-arg κs) (at-convert-operators .convert-operators .ensures), unmarked-after before-words-passes (stages-before-words (at-convert-sqrt .convert-sqrt .ensures) (at-convert-functions .convert-functions .ensures) (at-convert-operators .convert-operators .ensures)) (at-convert-sqrt .before .before .before .pre .1))
-
-convert-greek-capitals-requires : tie.Need-convert-greek-capitals-requires
-convert-greek-capitals-requires c κs =
-    let at-convert-words-arg : tie.After-convert-words-arg = search in
-    answered-ready (convert-words-requires at-convert-words-arg κs .0) (c .before .before .before .convert-words .ensures)
-
-convert-subscripts-requires : tie.Need-convert-subscripts-requires
-convert-subscripts-requires c κs =
-    let at-convert-greek-capitals-arg : tie.After-convert-greek-capitals-arg = search in
-    staged-ready (convert-greek-capitals-requires at-convert-greek-capitals-arg κs) (c .before .before .before .convert-greek-capitals .ensures)
+    (search needs, unmarked-after before-words-passes (stages-before-words (at-convert-sqrt .convert-sqrt .ensures) (at-convert-functions .convert-functions .ensures) (at-convert-operators .convert-operators .ensures)) (at-convert-sqrt .before .before .before .pre .1))
 
 convert-superscripts-requires : tie.Need-convert-superscripts-requires
-convert-superscripts-requires c κs =
-    let at-convert-subscripts-arg : tie.After-convert-subscripts-arg = search in
-    staged-ready (convert-subscripts-requires at-convert-subscripts-arg κs) (c .before .before .before .convert-subscripts .ensures)
+convert-superscripts-requires c κs = search needs
 
 convert-fractions-requires : tie.Need-convert-fractions-requires
 convert-fractions-requires c κs =
@@ -116,12 +91,12 @@ pub convert-syntax-spec : {M : Type 1} → statement M
 convert-syntax-spec =
     tie.close
     (tie.spec
-    convert-sqrt-requires
-    convert-functions-requires
-    convert-operators-requires
+    (λ c κs. search needs)
+    (λ c κs. search needs)
+    (λ c κs. search needs)
     convert-words-requires
-    convert-greek-capitals-requires
-    convert-subscripts-requires
+    (λ c κs. search needs)
+    (λ c κs. search needs)
     convert-superscripts-requires
     convert-fractions-requires
     unmark-solidus-requires

@@ -2,7 +2,6 @@
 use Rattle.spec.specs.Table.{nameLength, latexLength}
 use Rattle.table.specs.Reading.{recordOf, whole, end, past-end, read-end, read-cut, read-past, read-whole}
 use mathlib.Core.Path.{sym}
-use Prim.Native.Nat.{_+_, _<_}
 use native.Mathlib.Omega.{arith}
 use borrow.Author.Needs.{needs}
 use Rattle.table.proofs.record_at.Statement.{statement}
@@ -14,22 +13,6 @@ returns c = let a = c .before .before .args in record { read = sym (read-end (a 
 returns-2 : tie.Need-returns-2
 returns-2 c = let a = c .before .before .before .args in record { read = sym (read-cut (a .table .now) (a .at) (omega arith) (c .if2 .taken)); stands = past-end }
 
-high-small : (c : tie.After-wide) → c .wide .result < 256
-high-small c =
-    let at-start : tie.Start = search in
-    let b = c .before .shared-slice-known2 .given (at-start .args .at) in omega arith
-
-low-small : (c : tie.After-wide2) → c .wide2 .result < 256
-low-small c =
-    let at-start : tie.Start = search in
-    let b = c .before .shared-slice-known3 .given (at-start .args .at + 1) in omega arith
-
-add-latex-length : tie.Need-add-latex-length
-add-latex-length c = let b = high-small (c .before .before) in let d = low-small c in omega arith
-
-add-if3 : tie.Need-add-if3
-add-if3 c = let b = high-small (c .before .before) in let d = low-small c in omega arith
-
 returns-3 : tie.Need-returns-3
 returns-3 c =
     let at-wide2 = c .before in
@@ -37,7 +20,7 @@ returns-3 c =
     let at-start : tie.Start = search in
     let a = at-start .args in
     record {
-      read = sym (read-past (a .table .now) (a .at) (at-wide .wide .result) (at-wide2 .wide2 .result) (at-wide .wide .ensures) (at-wide2 .wide2 .ensures) (omega arith) (c .if3 .taken));
+      read = sym (read-past (a .table .now) (a .at) (at-wide .wide .result) (at-wide2 .wide2 .result) (at-wide .wide .ensures .0) (at-wide2 .wide2 .ensures .0) (omega arith) (c .if3 .taken));
       stands = past-end;
     }
 
@@ -47,9 +30,9 @@ returns-4 c =
     let at-wide = c .before .before .before in
     let at-start : tie.Start = search in
     let a = at-start .args in
-    let b = high-small at-wide in let d = low-small at-wide2 in
+    let b = at-wide .wide .ensures .1 in let d = at-wide2 .wide2 .ensures .1 in
     record {
-      read = sym (read-whole (a .table .now) (a .at) (at-wide .wide .result) (at-wide2 .wide2 .result) (at-wide .wide .ensures) (at-wide2 .wide2 .ensures) (omega arith) (c .if3 .left));
+      read = sym (read-whole (a .table .now) (a .at) (at-wide .wide .result) (at-wide2 .wide2 .result) (at-wide .wide .ensures .0) (at-wide2 .wide2 .ensures .0) (omega arith) (c .if3 .left));
       stands =
           whole {r = recordOf (a .at) (nameLength (at-wide .wide .result)) (latexLength (at-wide .wide .result) (at-wide2 .wide2 .result))}
           (record { named = omega arith; written = omega arith; inside = omega arith })
@@ -69,10 +52,10 @@ record-at-spec =
     (λ c. search needs)
     (λ c κs. search needs)
     (λ c. search needs)
-    add-latex-length
     (λ c. search needs)
     (λ c. search needs)
-    add-if3
+    (λ c. search needs)
+    (λ c. search needs)
     returns-3
     (λ c. search needs)
     (λ c. search needs)

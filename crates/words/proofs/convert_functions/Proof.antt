@@ -3,7 +3,7 @@ use mathlib.Core.Path.{refl}
 use Rattle.spec.specs.Rows.{functionMappings}
 use Rattle.spec.specs.Words.{replaceRows}
 use Rattle.entries.specs.Sized.{within-none, staged-alike}
-use Rattle.replacements.specs.Rows.{rowsOf, fairTable}
+use Rattle.rows.specs.Rows.{rowsOf, fairTable}
 use Rattle.replacements.specs.Kinds.{rows-replaced}
 use borrow.Author.Needs.{needs}
 use Rattle.words.proofs.convert_functions.Statement.{statement}

@@ -3,7 +3,7 @@ use mathlib.Core.Path.{refl}
 use Rattle.spec.specs.Rows.{greekCapitals}
 use Rattle.spec.specs.Words.{convertGreekCapitals}
 use Rattle.entries.specs.Sized.{within-none, staged-alike}
-use Rattle.replacements.specs.Rows.{rowsOf, fairTable}
+use Rattle.rows.specs.Rows.{rowsOf, fairTable}
 use Rattle.replacements.specs.Kinds.{rows-capital}
 use borrow.Author.Needs.{needs}
 use Rattle.words.proofs.convert_greek_capitals.Statement.{statement}

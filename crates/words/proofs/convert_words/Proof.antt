@@ -6,7 +6,7 @@ use Rattle.symbols.specs.Parts.{part}
 use Rattle.text.specs.Stage.{shown}
 use Rattle.blocks.specs.Outside.{holdable}
 use Rattle.blocks.specs.Carried.{carries-staged, outside-answered}
-use Rattle.replacements.specs.Rows.{rowsOf, fairTable}
+use Rattle.rows.specs.Rows.{rowsOf, fairTable}
 use Rattle.words.specs.Outside.{heldBoth, words-held, words-kept, words-by-held, within-then}
 use borrow.Author.Needs.{needs}
 use Rattle.words.proofs.convert_words.Statement.{statement}

@@ -1,6 +1,6 @@
 -- `layout::thin::drop_thin_space_after_commands` meets its contract: with no thin space the text stays, and else the rewritten text is judged.
 -- Assumes nothing.
-use Rattle.layout.specs.Thin.{thin-absent}
+use Rattle.spec.specs.Laws.Absent.{thin-spaces-absent}
 use Rattle.spec.specs.Finish.{dropThinSpaceAfterCommands}
 use Rattle.text.specs.Due.{staged-absent, occurs, staged-appended}
 use borrow.Author.Needs.{needs}
@@ -8,7 +8,7 @@ use Rattle.layout.proofs.thin.drop_thin_space_after_commands.Statement.
 use Rattle.layout.proofs.thin.drop_thin_space_after_commands.Tie as tie
 
 returns : tie.Need-returns
-returns c = staged-absent (c .before .before .due-for .ensures) (c .enum-told .given .1) dropThinSpaceAfterCommands thin-absent
+returns c = staged-absent (c .before .before .due-for .ensures) (c .enum-told .given .1) dropThinSpaceAfterCommands thin-spaces-absent
 
 drop-gaps-requires : tie.Need-drop-gaps-requires
 drop-gaps-requires c κs =

@@ -15,17 +15,17 @@ matching-delimiter-requires c κs = simp (length-take, length-drop) (omega arith
 
 returns : tie.Need-returns
 returns c =
-    let at-is-script : tie.After-is-script = search in
+    let at-is-script-sign : tie.After-is-script-sign = search in
     let at-start : tie.Start = search in
     let a = at-start .args in
-    subst (Closes (drop (a .i + 1) (a .s .now)) (c .matching-delimiter .result)) (script-yes (a .s .now) (a .i) (at-is-script .is-script .ensures) (c .before .before .before .symbol .ensures) (c .before .before .if1 .taken))
+    subst (Closes (drop (a .i + 1) (a .s .now)) (c .matching-delimiter .result)) (script-yes (a .s .now) (a .i) (at-is-script-sign .is-script-sign .ensures) (c .before .before .before .symbol .ensures) (c .before .before .if1 .taken))
     (closes-rest (a .s .now) (a .i + 1) (matchingDelimiter 123 125) (c .matching-delimiter .ensures))
 
 returns-2 : tie.Need-returns-2
 returns-2 c =
     let at-start : tie.Start = search in
     let a = at-start .args in
-    record { within = omega arith; left = script-no (a .s .now) (a .i) (c .before .before .is-script .ensures) (c .before .symbol .ensures) (c .if1 .left) }
+    record { within = omega arith; left = script-no (a .s .now) (a .i) (c .before .before .is-script-sign .ensures) (c .before .symbol .ensures) (c .if1 .left) }
 
 pub script-at-spec : {M : Type 1} → statement M
 script-at-spec =

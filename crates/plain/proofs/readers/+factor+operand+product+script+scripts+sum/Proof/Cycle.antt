@@ -5,19 +5,15 @@ use lib.ListN.{length}
 use borrow.Fn.Kinds.{In}
 use borrow.Fn.PlainCycle.{Measures, is, falls, and}
 use Rattle.plain.proofs.readers.factor.Reads as factor
-use Rattle.plain.proofs.readers.factor.Kinds as factor-kinds
 use Rattle.plain.proofs.readers.+factor+operand+product+script+scripts+sum.Lts-factor as factor-lts
 use Rattle.plain.proofs.readers.operand.Reads as operand
-use Rattle.plain.proofs.readers.operand.Kinds as operand-kinds
 use Rattle.plain.proofs.readers.+factor+operand+product+script+scripts+sum.Lts-operand as operand-lts
 use Rattle.plain.proofs.readers.product.Reads as product
-use Rattle.plain.proofs.readers.product.Kinds as product-kinds
 use Rattle.plain.proofs.readers.+factor+operand+product+script+scripts+sum.Lts-product as product-lts
 use Rattle.plain.proofs.readers.script.Reads as script
 use Rattle.plain.proofs.readers.script.Kinds as script-kinds
 use Rattle.plain.proofs.readers.+factor+operand+product+script+scripts+sum.Lts-script as script-lts
 use Rattle.plain.proofs.readers.scripts.Reads as scripts
-use Rattle.plain.proofs.readers.scripts.Kinds as scripts-kinds
 use Rattle.plain.proofs.readers.+factor+operand+product+script+scripts+sum.Lts-scripts as scripts-lts
 use Rattle.plain.proofs.readers.sum.Reads as sum
 use Rattle.plain.proofs.readers.sum.Kinds as sum-kinds
@@ -36,74 +32,41 @@ use Rattle.plain.proofs.joins.grouped.Reads as grouped-reads
 use Rattle.plain.proofs.joins.scripted.Reads as scripted-reads
 use Rattle.plain.proofs.tokens.sign_next.Reads as sign-next-reads
 
-abbrev pub μ-factor : Measures 1 factor-kinds.ps ℕ
-μ-factor κs a = 5 * length (a .0 .now) + 2
+-- ---- the readers of a text by their rank, which is the number in their contracts: a sum 4, a product 3, a factor 2, an operand and scripts 1
+abbrev pub measure : ℕ → Measures 1 sum-kinds.ps ℕ
+measure rank κs a = 5 * length (a .0 .now) + rank
 
-abbrev pub μ-operand : Measures 1 operand-kinds.ps ℕ
-μ-operand κs a = 5 * length (a .0 .now) + 1
+abbrev pub reader-at : ℕ → ℕ → In 1 sum-kinds.ps
+reader-at rank t = and 1 sum-kinds.ps (is 1 sum-kinds.ps (measure rank) t) sum.Pre
 
-abbrev pub μ-product : Measures 1 product-kinds.ps ℕ
-μ-product κs a = 5 * length (a .0 .now) + 3
+abbrev reader-below : ℕ → ℕ → In 1 sum-kinds.ps
+reader-below rank t = and 1 sum-kinds.ps (falls 1 sum-kinds.ps _<_ (measure rank) t) sum.Pre
 
-abbrev pub μ-script : Measures 1 script-kinds.ps ℕ
-μ-script κs a = 5 * length (a .0 .now) + 0
-
-abbrev pub μ-scripts : Measures 1 scripts-kinds.ps ℕ
-μ-scripts κs a = 5 * length (a .0 .now) + 1
-
-abbrev pub μ-sum : Measures 1 sum-kinds.ps ℕ
-μ-sum κs a = 5 * length (a .0 .now) + 4
-
-abbrev pub factor-at : ℕ → In 1 factor-kinds.ps
-factor-at t = and 1 factor-kinds.ps (is 1 factor-kinds.ps μ-factor t) factor.Pre
-
-abbrev pub factor-below : ℕ → In 1 factor-kinds.ps
-factor-below t = and 1 factor-kinds.ps (falls 1 factor-kinds.ps _<_ μ-factor t) factor.Pre
-
-abbrev pub operand-at : ℕ → In 1 operand-kinds.ps
-operand-at t = and 1 operand-kinds.ps (is 1 operand-kinds.ps μ-operand t) operand.Pre
-
-abbrev pub operand-below : ℕ → In 1 operand-kinds.ps
-operand-below t = and 1 operand-kinds.ps (falls 1 operand-kinds.ps _<_ μ-operand t) operand.Pre
-
-abbrev pub product-at : ℕ → In 1 product-kinds.ps
-product-at t = and 1 product-kinds.ps (is 1 product-kinds.ps μ-product t) product.Pre
-
-abbrev pub product-below : ℕ → In 1 product-kinds.ps
-product-below t = and 1 product-kinds.ps (falls 1 product-kinds.ps _<_ μ-product t) product.Pre
+-- ---- that of a script is told its sign too
+abbrev pub script-measure : Measures 1 script-kinds.ps ℕ
+script-measure κs a = 5 * length (a .0 .now) + 0
 
 abbrev pub script-at : ℕ → In 1 script-kinds.ps
-script-at t = and 1 script-kinds.ps (is 1 script-kinds.ps μ-script t) script.Pre
+script-at t = and 1 script-kinds.ps (is 1 script-kinds.ps script-measure t) script.Pre
 
-abbrev pub script-below : ℕ → In 1 script-kinds.ps
-script-below t = and 1 script-kinds.ps (falls 1 script-kinds.ps _<_ μ-script t) script.Pre
+abbrev script-below : ℕ → In 1 script-kinds.ps
+script-below t = and 1 script-kinds.ps (falls 1 script-kinds.ps _<_ script-measure t) script.Pre
 
-abbrev pub scripts-at : ℕ → In 1 scripts-kinds.ps
-scripts-at t = and 1 scripts-kinds.ps (is 1 scripts-kinds.ps μ-scripts t) scripts.Pre
-
-abbrev pub scripts-below : ℕ → In 1 scripts-kinds.ps
-scripts-below t = and 1 scripts-kinds.ps (falls 1 scripts-kinds.ps _<_ μ-scripts t) scripts.Pre
-
-abbrev pub sum-at : ℕ → In 1 sum-kinds.ps
-sum-at t = and 1 sum-kinds.ps (is 1 sum-kinds.ps μ-sum t) sum.Pre
-
-abbrev pub sum-below : ℕ → In 1 sum-kinds.ps
-sum-below t = and 1 sum-kinds.ps (falls 1 sum-kinds.ps _<_ μ-sum t) sum.Pre
-
+-- ---- what is known of their calls
 abbrev pub factor-calls : (t : ℕ) → factor-lts.Claims
-factor-calls t = (atom-reads.Asked, atom-reads.Learnt, rest-reads.Asked, rest-reads.Learnt, symbol-reads.Asked, symbol-reads.Learnt, scripts-below t, scripts.Post, scripted-reads.Asked, scripted-reads.Learnt, operand-below t, operand.Post, divided-reads.Asked, divided-reads.Learnt)
+factor-calls t = (atom-reads.Asked, atom-reads.Learnt, rest-reads.Asked, rest-reads.Learnt, symbol-reads.Asked, symbol-reads.Learnt, reader-below 1 t, scripts.Post, scripted-reads.Asked, scripted-reads.Learnt, reader-below 1 t, operand.Post, divided-reads.Asked, divided-reads.Learnt)
 
 abbrev pub operand-calls : (t : ℕ) → operand-lts.Claims
-operand-calls t = (atom-reads.Asked, atom-reads.Learnt, leaf-reads.Asked, leaf-reads.Learnt, symbol-reads.Asked, symbol-reads.Learnt, rest-reads.Asked, rest-reads.Learnt, sum-below t, sum.Post, closed-reads.Asked, closed-reads.Learnt)
+operand-calls t = (atom-reads.Asked, atom-reads.Learnt, leaf-reads.Asked, leaf-reads.Learnt, symbol-reads.Asked, symbol-reads.Learnt, rest-reads.Asked, rest-reads.Learnt, reader-below 4 t, sum.Post, closed-reads.Asked, closed-reads.Learnt)
 
 abbrev pub product-calls : (t : ℕ) → product-lts.Claims
-product-calls t = (factor-below t, factor.Post, behind-reads.Asked, behind-reads.Learnt, rest-reads.Asked, rest-reads.Learnt, factor-next-reads.Asked, factor-next-reads.Learnt)
+product-calls t = (reader-below 2 t, factor.Post, behind-reads.Asked, behind-reads.Learnt, rest-reads.Asked, rest-reads.Learnt, factor-next-reads.Asked, factor-next-reads.Learnt)
 
 abbrev pub script-calls : (t : ℕ) → script-lts.Claims
-script-calls t = (symbol-reads.Asked, symbol-reads.Learnt, leaf-reads.Asked, leaf-reads.Learnt, rest-reads.Asked, rest-reads.Learnt, is-alnum-reads.Asked, is-alnum-reads.Learnt, operand-below t, operand.Post, grouped-reads.Asked, grouped-reads.Learnt)
+script-calls t = (symbol-reads.Asked, symbol-reads.Learnt, leaf-reads.Asked, leaf-reads.Learnt, rest-reads.Asked, rest-reads.Learnt, is-alnum-reads.Asked, is-alnum-reads.Learnt, reader-below 1 t, operand.Post, grouped-reads.Asked, grouped-reads.Learnt)
 
 abbrev pub scripts-calls : (t : ℕ) → scripts-lts.Claims
 scripts-calls t = (script-below t, script.Post, rest-reads.Asked, rest-reads.Learnt, joined-reads.Asked, joined-reads.Learnt)
 
 abbrev pub sum-calls : (t : ℕ) → sum-lts.Claims
-sum-calls t = (product-below t, product.Post, behind-reads.Asked, behind-reads.Learnt, rest-reads.Asked, rest-reads.Learnt, sign-next-reads.Asked, sign-next-reads.Learnt)
+sum-calls t = (reader-below 3 t, product.Post, behind-reads.Asked, behind-reads.Learnt, rest-reads.Asked, rest-reads.Learnt, sign-next-reads.Asked, sign-next-reads.Learnt)

@@ -1,13 +1,13 @@
--- `table_faults::is_same` meets its contract. Assumes nothing.
-use Rattle.table_faults.specs.Faults.{same-other, same-starts}
+-- `search::is_same` meets its contract. Assumes nothing.
 use mathlib.Core.Path.{sym, _∙_}
 use native.Mathlib.Omega.{arith}
 use borrow.Author.Needs.{needs}
-use Rattle.table_faults.proofs.is_same.Statement.{statement}
-use Rattle.table_faults.proofs.is_same.Tie as tie
+use Rattle.spec.specs.Laws.Names.{same-other-length, same-starts}
+use Rattle.search.proofs.is_same.Statement.{statement}
+use Rattle.search.proofs.is_same.Tie as tie
 
 returns : tie.Need-returns
-returns c = let a = c .before .before .before .args in sym (same-other (a .a .now) (a .b .now) (λ e. omega arith))
+returns c = let a = c .before .before .before .args in sym (same-other-length (a .a .now) (a .b .now) (λ e. omega arith))
 
 returns-2 : tie.Need-returns-2
 returns-2 c =

@@ -1,9 +1,9 @@
--- `sizing::put_right` meets its contract: two appends in a row are one. Assumes nothing.
+-- `sizing::put_sized` meets its contract: two appends in a row are one. Assumes nothing.
 use Rattle.text.specs.Writer.{room-left, appended-more}
 use native.Mathlib.Omega.{arith}
 use borrow.Author.Needs.{needs}
-use Rattle.sizing.proofs.put_right.Statement.{statement}
-use Rattle.sizing.proofs.put_right.Tie as tie
+use Rattle.sizing.proofs.put_sized.Statement.{statement}
+use Rattle.sizing.proofs.put_sized.Tie as tie
 
 put-all-requires : tie.Need-put-all-requires
 put-all-requires c κs = let r = c .before .before .before .pre in record { region = r .region; small = omega arith }
@@ -18,12 +18,5 @@ returns c =
     let at-put-all : tie.After-put-all = search in
     appended-more (at-put-all .put-all .ensures) (c .before .before .put .ensures)
 
-pub put-right-spec : {M : Type 1} → statement M
-put-right-spec =
-    tie.close
-    (tie.spec
-    (λ c. search needs)
-    put-all-requires
-    put-requires
-    (λ c. search needs)
-    returns)
+pub put-sized-spec : {M : Type 1} → statement M
+put-sized-spec = tie.close (tie.spec put-all-requires put-requires (λ c. search needs) returns)

@@ -4,7 +4,7 @@
 --     fairRow, fairTable     no row lies past the end, is empty or too long: a test, which antt computes for each table
 -- Assumes nothing.
 use mathlib.Core.Path.{_≡_, sym, ap, _∙_}
-use mathlib.Core.Bool.{Bool, true, _&&_}
+use mathlib.Core.Bool.{Bool, true, false, _&&_}
 use mathlib.Core.List.{List, [], _∷_}
 use Prim.Native.Nat.{ℕ, zero, suc, _+_, _-_, _*_, _/_, _≤_, _<_}
 use native.Mathlib.Nat.{not-suc-le-zero, le-of-suc-le-suc}
@@ -13,9 +13,11 @@ use lib.Dec.{leb}
 use lib.ListN.{length, getD}
 use borrow.Author.Tests.{leb-true}
 use Rattle.spec.specs.Laws.Booleans.{and-left, and-right}
+use Rattle.spec.specs.Symbols.{same}
+use Rattle.spec.specs.Finish.{oneOf}
 use Rattle.spec.specs.Rows.{Row}
-use Rattle.symbols.specs.Parts.{part, length-part, whole-part}
-use Rattle.entries.specs.Bounded.{Fair}
+use Rattle.spec.specs.Grammar.{typsts}
+use Rattle.symbols.specs.Parts.{part, whole-part}
 
 -- the text whose length stands at a place
 abbrev pub textAt : List ℕ → ℕ → List ℕ
@@ -61,8 +63,8 @@ module _ (table : List ℕ) (k : ℕ) (e : fairRow table k ≡ true) where
   rest : (leb 1 (getD table (k * 36) 0) && (leb (getD table (k * 36) 0) 15 && leb (getD table (k * 36 + 16) 0) 19)) ≡ true
   rest = and-right (leb (k * 36 + 36) (length table)) _ e
 
-  some : 1 ≤ getD table (k * 36) 0
-  some = leb-true 1 (getD table (k * 36) 0) (and-left (leb 1 (getD table (k * 36) 0)) _ rest)
+  pub typst-some : 1 ≤ getD table (k * 36) 0
+  typst-some = leb-true 1 (getD table (k * 36) 0) (and-left (leb 1 (getD table (k * 36) 0)) _ rest)
 
   widths : (leb (getD table (k * 36) 0) 15 && leb (getD table (k * 36 + 16) 0) 19) ≡ true
   widths = and-right (leb 1 (getD table (k * 36) 0)) _ rest
@@ -72,13 +74,6 @@ module _ (table : List ℕ) (k : ℕ) (e : fairRow table k ≡ true) where
 
   pub latex-fits : getD table (k * 36 + 16) 0 ≤ 19
   latex-fits = leb-true (getD table (k * 36 + 16) 0) 19 (and-right (leb (getD table (k * 36) 0) 15) _ widths)
-
-  pub row-fair : Fair (rowAt table k .typst) (rowAt table k .latex)
-  row-fair =
-      let w = row-within in let a = typst-fits in let b = latex-fits in let c = some in
-      let t = length-part (k * 36 + 1) (getD table (k * 36) 0) table (omega arith) in
-      let l = length-part (k * 36 + 16 + 1) (getD table (k * 36 + 16) 0) table (omega arith) in
-      record { some = omega arith; short = omega arith; few = omega arith }
 
 -- ---- rows one after another
 pub text-shown : (table : List ℕ) (at : ℕ) {end : ℕ} → end ≡ at + 1 + getD table at 0 → part (at + 1) (end - (at + 1)) table ≡ textAt table at
@@ -93,3 +88,14 @@ rows-done table k n h = let z : n - k ≡ 0 = omega arith in ap (rowsFrom table 
 pub rows-all : (table : List ℕ) → rowsFrom table 0 (length table / 36 - 0) ≡ rowsOf table
 unfolding rowsOf
 rows-all table = let z : length table / 36 - 0 ≡ length table / 36 = omega arith in ap (rowsFrom table 0) z
+
+-- ---- whether a text is a name of the table: the rows before row k are not
+module _ (table s : List ℕ) (k n : ℕ) (h : k < n) where
+  pub this-row : same (rowAt table k .typst) s ≡ true → true ≡ oneOf (typsts (rowsFrom table k (n - k))) s
+  this-row e = rw (row-next table k n h, e)
+
+  pub next-row : same (rowAt table k .typst) s ≡ false → oneOf (typsts (rowsFrom table (k + 1) (n - (k + 1)))) s ≡ oneOf (typsts (rowsFrom table k (n - k))) s
+  next-row e = rw (row-next table k n h, e)
+
+pub no-row : (table s : List ℕ) (k n : ℕ) → n ≤ k → false ≡ oneOf (typsts (rowsFrom table k (n - k))) s
+no-row table s k n h = rw (rows-done table k n h)
