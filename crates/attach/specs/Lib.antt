@@ -4,3 +4,4 @@ pub mod Weight
 pub mod Once
 pub mod Subscript
 pub mod Turns
+pub mod Settled

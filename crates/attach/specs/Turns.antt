@@ -3,7 +3,6 @@
 --     undersetAt    one rewriting, as the code writes it
 --     Turned        what `attach_once` ensures
 --     Turning       the loop: k turns have been made. Rewritten: all have
---     Settled       what `settle` ensures: the text, judged by its length
 use mathlib.Core.Path.{_≡_, refl, sym, ap, ap₂, _∙_, subst}
 use mathlib.Core.Bool.{cond}
 use mathlib.Core.List.{List, _++_}
@@ -16,7 +15,7 @@ use lib.Dec.{ltb}
 use lib.ListN.{length, take, drop}
 use lib.Seq.{drop-drop, take-take}
 use borrow.Author.Tests.{lt-ltb, le-ltb}
-use Rattle.spec.specs.Result.{passed, _then_, mostSymbols, grown, stage}
+use Rattle.spec.specs.Result.{mostSymbols}
 use Rattle.spec.specs.Calls.{spliced, latexUnderset, attachOnce, attachTimes, convertAttach}
 use Rattle.spec.specs.Symbols.{bytes, _andThen_, find}
 use Rattle.spec.specs.Laws.Symbols.{find-starts}
@@ -30,7 +29,7 @@ use Rattle.symbols.specs.Parts.{part, length-part, whole-part, sub-part, rest-p
 use Rattle.symbols.specs.Trim.{spanned}
 use Rattle.text.specs.Writer.{Regions, Appended, appended-long}
 use Rattle.text.specs.Written.{appended-text, appended-written, wrote-beyond}
-use Rattle.text.specs.Stage.{shown, Placed, judged, Ready, Answered, placed-text, placed-fits}
+use Rattle.text.specs.Stage.{Ready, placed-text, placed-fits}
 use Rattle.symbols.specs.declared.Span.{Span}
 use Rattle.text.specs.declared.Progress.{Progress}
 use Rattle.text.specs.declared.Progress.the-variants.{Text}
@@ -257,51 +256,3 @@ module _ {w₀ w : List ℕ} {from n at m k : ℕ} (turning : Turning w₀ w fro
         beyond = turning .beyond;
         text = sym (ap (λ j. attachTimes j (part at m w)) z) ∙ turning .left ∙ all-times half;
       }
-
--- ---- the finished text
-pub record Settled (w w′ : List ℕ) (place : Place) (r : Progress) : Type 0 where
-  pub long : length w′ ≡ length w
-  pub answer : shown r w′ ≡ grown (part (place .at) (place .n) w) (part (place .at) (place .n) w)
-  pub placed : Placed r
-  pub beyond : Beyond w w′
-
-module _ (w w′ : List ℕ) (place : Place) (to count : ℕ) (counted : count ≡ length (part (place .at) (place .n) w)) (region : (to ≡ 0) ⊎ (to ≡ mostSymbols)) (held : count ≤ mostSymbols → part to count w′ ≡ part (place .at) (place .n) w) where
-  judged-answer : Dec (mostSymbols < count) → (shown (judged to count) w′ ≡ grown (part (place .at) (place .n) w) (part (place .at) (place .n) w)) × Placed (judged to count)
-  judged-answer (yes h) =
-      let t = part (place .at) (place .n) w in
-      (rw (lt-ltb mostSymbols count h, lt-ltb mostSymbols (length t) (omega arith)), rw (lt-ltb mostSymbols count h) tt)
-  judged-answer (no h) =
-      let t = part (place .at) (place .n) w in
-      let l : count ≤ mostSymbols = omega arith in
-      (rw (le-ltb mostSymbols count l, le-ltb mostSymbols (length t) (omega arith)) (ap passed (held l)), rw (le-ltb mostSymbols count l) (region, l))
-
-  settled : {r : Progress} → length w′ ≡ length w → Beyond w w′ → r ≡ judged to count → Settled w w′ place r
-  settled long beyond e =
-      let j = judged-answer (decLt mostSymbols count) in
-      record { long = long; answer = ap (λ q. shown q w′) e ∙ j .0; placed = subst Placed (sym e) (j .1); beyond = beyond }
-
-module _ {w : List ℕ} {place : Place} (half : Halved w (place .at) (place .n)) where
-  pub settled-low : {r : Progress} → place .at < 16384 → r ≡ judged (place .at) (place .n) → Settled w w place r
-  settled-low h e =
-      settled w w place (place .at) (place .n) (sym (length-part (place .at) (place .n) w (halved-regions half .source)))
-      (⊎-elim (λ p. p .0) (λ p. (let z = p .0 in absurd (omega arith))) (half .place)) (λ l. refl) refl refl e
-
-  pub settled-high : {w′ : List ℕ} {count : ℕ} {r : Progress} → Appended w w′ 0 8192 0 count (part (place .at) (place .n) w) → r ≡ judged 0 count → Settled w w′ place r
-  settled-high {w′} {count} a e =
-      let long = half .long in
-      let counted = a .counted in
-      settled w w′ place 0 count (omega arith) (inl refl) (λ l. appended-text a (omega arith) l) (appended-long a)
-      (wrote-beyond {k = 32768} (appended-written a (omega arith) .wrote) (omega arith)) e
-
-pub attach-answered :
-    {w w′ w″ : List ℕ} {p r : Progress} {from n : ℕ} {place : Place} → p ≡ Text from n → Rewritten w w′ from n place → Settled w′ w″ place r
-    → Answered w w″ p r (stage convertAttach)
-attach-answered {w} e rewritten settled =
-    record {
-      answer = settled .answer ∙ ap (λ t. grown t t) (rewritten .text) ∙ sym (ap (λ q. shown q w then stage convertAttach) e);
-      long = settled .long ∙ rewritten .long;
-      placed = settled .placed;
-    }
-
-pub attach-beyond : {w w′ w″ : List ℕ} {r : Progress} {from n : ℕ} {place : Place} → Rewritten w w′ from n place → Settled w′ w″ place r → Beyond w w″
-attach-beyond rewritten settled = settled .beyond ∙ rewritten .beyond

@@ -17,7 +17,8 @@ ghost use Rattle.text.specs.Writer.{Appended, Regions};
 ghost use Rattle.text.specs.Stage.{Ready, Answered};
 ghost use Rattle.symbols.specs.Trim.{Within, Narrowed, spanned};
 ghost use Rattle.attach.specs.Once.{Attached, Arguments};
-ghost use Rattle.attach.specs.Turns.{Halved, Beyond, other, undersetAt, Turned, Rewritten, Settled};
+ghost use Rattle.attach.specs.Turns.{Halved, Beyond, other, undersetAt, Turned, Rewritten};
+ghost use Rattle.attach.specs.Settled.{Settled};
 
 // The length of `attach(`.
 const OPEN: usize = 7;

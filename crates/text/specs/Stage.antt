@@ -59,6 +59,17 @@ Placed (Refused k) = Unit {0}
 abbrev pub judged : ℕ → ℕ → Progress
 judged to count = cond (ltb mostSymbols count) (Refused Overgrown) (Text to count)
 
+pub judged-text :
+    (w t : List ℕ) (to : ℕ) {count : ℕ} → count ≡ length t → (to ≡ 0) ⊎ (to ≡ mostSymbols) → (count ≤ mostSymbols → part to count w ≡ t)
+    → (shown (judged to count) w ≡ grown t t) × Placed (judged to count)
+judged-text w t to {count} counted region held = go (decLt mostSymbols count)
+  where
+    go : Dec (mostSymbols < count) → (shown (judged to count) w ≡ grown t t) × Placed (judged to count)
+    go (yes h) = rw (lt-ltb mostSymbols count h, lt-ltb mostSymbols (length t) (omega arith)) (refl, tt)
+    go (no h) =
+        let l : count ≤ mostSymbols = omega arith in
+        rw (le-ltb mostSymbols count l, le-ltb mostSymbols (length t) (omega arith)) (ap passed (held l), (region, l))
+
 pub record Ready (w : List ℕ) (p : Progress) : Type 0 where
   pub long : 32768 ≤ length w
   pub placed : Placed p
@@ -177,30 +188,15 @@ module _ {w : List ℕ} {p : Progress} {from n : ℕ} (ready : Ready w p) (e : p
       {w′ : List ℕ} {count : ℕ} {p′ : Progress} {t : List ℕ} (f : List ℕ → List ℕ)
       → Written w w′ (8192 - from) 8192 count t → f (part from n w) ≡ t → p′ ≡ judged (8192 - from) count
       → Staged w w′ p p′ (stage f)
-  staged-written {w′} {count} {p′} {t} f written same j =
+  staged-written {w′} {count} {t = t} f written same j =
+      let fits = placed-regions .region in let c = written .counted in
+      let other : ((8192 - from) ≡ 0) ⊎ ((8192 - from) ≡ mostSymbols) = ⊎-elim (λ z. inr (omega arith)) (λ z. inl (omega arith)) (placed-text .0) in
+      let right = judged-text w′ t (8192 - from) c other (λ l. ap (λ m. part (8192 - from) m w′) c ∙ wrote-text (written .wrote) fits (omega arith)) in
       record {
         answered = record {
-          answer = ap (λ q. shown q w′) j ∙ judged-shown (decLt mostSymbols count) ∙ sym (ap (λ q. shown q w then stage f) e ∙ ap (λ s. grown s s) same);
+          answer = ap (λ q. shown q w′) j ∙ right .0 ∙ sym (ap (λ q. shown q w then stage f) e ∙ ap (λ s. grown s s) same);
           long = written .wrote .long;
-          placed = subst Placed (sym j) (judged-placed (decLt mostSymbols count));
+          placed = subst Placed (sym j) (right .1);
         };
-        beyond = wrote-beyond {k = 16384} (written .wrote) (let r = placed-regions .region in ⊎-elim (λ z. omega arith) (λ z. omega arith) (placed-text .0));
+        beyond = wrote-beyond {k = 16384} (written .wrote) (⊎-elim (λ z. omega arith) (λ z. omega arith) (placed-text .0));
       }
-    where
-      fits : 8192 - from + 8192 ≤ length w
-      fits = placed-regions .region
-
-      judged-shown : Dec (mostSymbols < count) → shown (judged (8192 - from) count) w′ ≡ grown t t
-      judged-shown (yes h) =
-          let c = written .counted in
-          rw (lt-ltb mostSymbols count h, lt-ltb mostSymbols (length t) (omega arith))
-      judged-shown (no h) =
-          let c = written .counted in let l : count ≤ mostSymbols = omega arith in
-          rw (le-ltb mostSymbols count l, le-ltb mostSymbols (length t) (omega arith))
-          (ap passed (ap (λ m. part (8192 - from) m w′) c ∙ wrote-text (written .wrote) fits (omega arith)))
-
-      judged-placed : Dec (mostSymbols < count) → Placed (judged (8192 - from) count)
-      judged-placed (yes h) = rw (lt-ltb mostSymbols count h) tt
-      judged-placed (no h) =
-          let l : count ≤ mostSymbols = omega arith in
-          rw (le-ltb mostSymbols count l) (⊎-elim (λ z. inr (omega arith)) (λ z. inl (omega arith)) (placed-text .0), l)

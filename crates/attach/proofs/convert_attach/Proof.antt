@@ -2,7 +2,8 @@
 use mathlib.Core.Path.{refl}
 use Rattle.spec.specs.Result.{stage}
 use Rattle.spec.specs.Calls.{convertAttach}
-use Rattle.attach.specs.Turns.{ready-halved, attach-answered, attach-beyond}
+use Rattle.attach.specs.Turns.{ready-halved}
+use Rattle.attach.specs.Settled.{attach-answered, attach-beyond}
 use Rattle.text.specs.Stage.{staged-refused}
 use borrow.Author.Needs.{needs}
 use Rattle.attach.proofs.convert_attach.Statement.{statement}

@@ -1,5 +1,6 @@
 -- `attach::settle` meets its contract, by the two places of the text. Assumes nothing.
-use Rattle.attach.specs.Turns.{halved-regions, settled-low, settled-high}
+use Rattle.attach.specs.Turns.{halved-regions}
+use Rattle.attach.specs.Settled.{settled-low, settled-high}
 use mathlib.Core.Logic.{inr}
 use native.Mathlib.Omega.{arith}
 use borrow.Author.Needs.{needs}
