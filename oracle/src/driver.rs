@@ -40,7 +40,7 @@ judge dump [FILE]                    the recorded cases as lines: index family d
 judge check [FILE]                   answers the recorded cases again and compares
 judge generate SEED N                N generated cases as such lines
 judge crosscheck SEED N [FILE]       judges N generated cases and all recorded ones against the unchanged functions
-judge short [FILE]                   makes the list of short plain formulas (default crates/short_formulas/stdout): says
+judge short [FILE]                   makes the list of short plain formulas (default crates/plain_short/stdout): says
                                      that the file is the same, or writes it
 judge smallest                       the shortest texts that 5 to 9 refuse, by a search through all of them; some minutes
 judge stages < LINES                 each line by one function of the Rust, as the program stage_lines answers it
@@ -50,7 +50,7 @@ judge plain SEED N                   the library's plain check against another p
 /// The build folder is target/oracle of the repository.
 const RECORDED: &str = concat!(env!("CARGO_MANIFEST_DIR"), "/../../crates/replay/data/cases.bin");
 
-const SHORT_FORMULAS: &str = concat!(env!("CARGO_MANIFEST_DIR"), "/../../crates/short_formulas/stdout");
+const SHORT_FORMULAS: &str = concat!(env!("CARGO_MANIFEST_DIR"), "/../../crates/plain_short/stdout");
 
 pub fn main() {
     if workers::with_room(run) != Some(true) {

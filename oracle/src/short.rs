@@ -1,4 +1,4 @@
-//! The list of all short plain formulas, with their atom counts and their LaTeX: what the program `short_formulas` writes.
+//! The list of all short plain formulas, with their atom counts and their LaTeX: what the program `plain_short` writes.
 //!
 //! The trees are built rule by rule from document 01's grammar, shorter parts first. Before the list is given out, the
 //! parser is run on every short text: it must find these trees and no others. And the Rust must print each as written here.

@@ -10,12 +10,12 @@ use Rattle.spec.specs.Symbols.{bytes, is, find, inside, trim, dropWhileEnd}
 use Rattle.spec.specs.Closing.{findUnescapedComma}
 use Rattle.spec.specs.Calls.{bottom, subscript}
 use Rattle.spec.specs.Laws.Symbols.{starts-long, find-starts}
-use Rattle.symbols.specs.Parts.{part, drop-take}
-use Rattle.search.specs.Search.{Finds, finds-at, finds-nothing, Closes, closes-at, closes-within, closes-nothing, inside-drop}
-use Rattle.symbols.specs.Trim.{Within, Narrowed, spanned}
-use Rattle.symbols.specs.declared.Span.{Span}
-use Rattle.search.specs.declared.Found.{Found}
-use Rattle.search.specs.declared.Found.the-variants.{At, Nothing}
+use Rattle.text_symbols.specs.Parts.{part, drop-take}
+use Rattle.text_search.specs.Search.{Finds, finds-at, finds-nothing, Closes, closes-at, closes-within, closes-nothing, inside-drop}
+use Rattle.text_symbols.specs.Trim.{Within, Narrowed, spanned}
+use Rattle.text_symbols.specs.declared.Span.{Span}
+use Rattle.text_search.specs.declared.Found.{Found}
+use Rattle.text_search.specs.declared.Found.the-variants.{At, Nothing}
 
 -- ---- the definitions, by what has been found
 abbrev bottomBy : List ℕ → Option (List ℕ) → List ℕ

@@ -15,12 +15,12 @@ use Rattle.spec.specs.Calls.{subscript, latexUnderset, latexAttach}
 use Rattle.spec.specs.Sweep.{replace}
 use Rattle.spec.specs.Laws.Symbols.{starts-take}
 use Rattle.attach.specs.Weight.{weight, weight-append, weight-long, weight-split, weight-from, replace-light}
-use Rattle.symbols.specs.Parts.{part, whole-part, length-part, drop-take}
-use Rattle.search.specs.Search.{Closes, closes-at, closes-within, closes-nothing, inside-drop}
-use Rattle.symbols.specs.Trim.{Narrowed, spanned}
-use Rattle.symbols.specs.declared.Span.{Span}
-use Rattle.search.specs.declared.Found.{Found}
-use Rattle.search.specs.declared.Found.the-variants as Found
+use Rattle.text_symbols.specs.Parts.{part, whole-part, length-part, drop-take}
+use Rattle.text_search.specs.Search.{Closes, closes-at, closes-within, closes-nothing, inside-drop}
+use Rattle.text_symbols.specs.Trim.{Narrowed, spanned}
+use Rattle.text_symbols.specs.declared.Span.{Span}
+use Rattle.text_search.specs.declared.Found.{Found}
+use Rattle.text_search.specs.declared.Found.the-variants as Found
 use Rattle.attach.specs.declared.Attachment.{Attachment}
 use Rattle.attach.specs.declared.Attachment.the-variants.{At, Nothing}
 
@@ -29,28 +29,28 @@ abbrev pub underset : List ℕ → ℕ → ℕ → List ℕ → List ℕ → Lis
 underset s i k below base = take i s ++ latexUnderset below base ++ drop (i + 7 + k + 1) s
 
 -- base and subscript stand in the k symbols at `start`, apart from each other
-pub record Arguments (start k : ℕ) (base below : Span) : Type 0 where
+pub record ArgumentsWithin (start k : ℕ) (base below : Span) : Type 0 where
   pub first : start ≤ base .start
   pub base-order : base .start ≤ base .end
   pub between : base .end < below .start
   pub below-order : below .start < below .end
   pub last : below .end ≤ start + k
 
-abbrev pub Fits : ℕ → ℕ → Attachment → Type 0
-Fits start k (At base below) = Arguments start k base below
-Fits start k Nothing = Unit {0}
+abbrev pub AttachmentFits : ℕ → ℕ → Attachment → Type 0
+AttachmentFits start k (At base below) = ArgumentsWithin start k base below
+AttachmentFits start k Nothing = Unit {0}
 
-abbrev pub latexOf : List ℕ → Attachment → Option (List ℕ)
-latexOf s (At base below) = some (latexUnderset (spanned below s) (spanned base s))
-latexOf s Nothing = none
+abbrev pub attachmentLatex : List ℕ → Attachment → Option (List ℕ)
+attachmentLatex s (At base below) = some (latexUnderset (spanned below s) (spanned base s))
+attachmentLatex s Nothing = none
 
 pub record Attached (s : List ℕ) (start k : ℕ) (r : Attachment) : Type 0 where
-  pub fits : Fits start k r
-  pub latex : latexOf s r ≡ latexAttach (part start k s)
+  pub fits : AttachmentFits start k r
+  pub latex : attachmentLatex s r ≡ latexAttach (part start k s)
 
 -- the text that a rewriting leaves is no heavier
 pub underset-light :
-    (s : List ℕ) (i k : ℕ) {base below : Span} → Arguments (i + 7) k base below → i + 7 + k + 1 ≤ length s → starts (bytes "attach(") (drop i s) ≡ true
+    (s : List ℕ) (i k : ℕ) {base below : Span} → ArgumentsWithin (i + 7) k base below → i + 7 + k + 1 ≤ length s → starts (bytes "attach(") (drop i s) ≡ true
     → weight (underset s i k (spanned below s) (spanned base s)) ≤ weight s
 unfolding weight
 underset-light s i k {base} {below} args within met =

@@ -8,30 +8,30 @@ use native.Mathlib.Omega.{arith}
 use lib.ListN.{length}
 use Rattle.spec.specs.Result.{_then_, mostSymbols, grown, stage}
 use Rattle.spec.specs.Calls.{convertAttach}
-use Rattle.symbols.specs.Parts.{part, length-part}
+use Rattle.text_symbols.specs.Parts.{part, length-part}
 use Rattle.text.specs.Writer.{Appended, appended-long}
 use Rattle.text.specs.Written.{appended-text, appended-written, wrote-beyond}
 use Rattle.text.specs.Stage.{shown, Placed, judged, judged-text, Answered}
 use Rattle.text.specs.declared.Progress.{Progress}
 use Rattle.text.specs.declared.Progress.the-variants.{Text}
 use Rattle.attach.specs.Turns.{Halved, Beyond, Rewritten, halved-regions}
-use Rattle.attach.specs.declared.Place.{Place}
+use Rattle.attach.specs.declared.TextPlace.{TextPlace}
 
-pub record Settled (w w′ : List ℕ) (place : Place) (r : Progress) : Type 0 where
+pub record Settled (w w′ : List ℕ) (place : TextPlace) (r : Progress) : Type 0 where
   pub long : length w′ ≡ length w
   pub answer : shown r w′ ≡ grown (part (place .at) (place .n) w) (part (place .at) (place .n) w)
   pub placed : Placed r
   pub beyond : Beyond w w′
 
 settled :
-    (w w′ : List ℕ) (place : Place) (to count : ℕ) {r : Progress} → count ≡ length (part (place .at) (place .n) w) → (to ≡ 0) ⊎ (to ≡ mostSymbols)
+    (w w′ : List ℕ) (place : TextPlace) (to count : ℕ) {r : Progress} → count ≡ length (part (place .at) (place .n) w) → (to ≡ 0) ⊎ (to ≡ mostSymbols)
     → (count ≤ mostSymbols → part to count w′ ≡ part (place .at) (place .n) w) → length w′ ≡ length w → Beyond w w′ → r ≡ judged to count
     → Settled w w′ place r
 settled w w′ place to count counted region held long beyond e =
     let right = judged-text w′ (part (place .at) (place .n) w) to counted region held in
     record { long = long; answer = ap (λ q. shown q w′) e ∙ right .0; placed = subst Placed (sym e) (right .1); beyond = beyond }
 
-module _ {w : List ℕ} {place : Place} (half : Halved w (place .at) (place .n)) where
+module _ {w : List ℕ} {place : TextPlace} (half : Halved w (place .at) (place .n)) where
   pub settled-low : {r : Progress} → place .at < 16384 → r ≡ judged (place .at) (place .n) → Settled w w place r
   settled-low h e =
       settled w w place (place .at) (place .n) (sym (length-part (place .at) (place .n) w (halved-regions half .source)))
@@ -45,7 +45,7 @@ module _ {w : List ℕ} {place : Place} (half : Halved w (place .at) (place .n))
       (wrote-beyond {k = 32768} (appended-written a (omega arith) .wrote) (omega arith)) e
 
 pub attach-answered :
-    {w w′ w″ : List ℕ} {p r : Progress} {from n : ℕ} {place : Place} → p ≡ Text from n → Rewritten w w′ from n place → Settled w′ w″ place r
+    {w w′ w″ : List ℕ} {p r : Progress} {from n : ℕ} {place : TextPlace} → p ≡ Text from n → Rewritten w w′ from n place → Settled w′ w″ place r
     → Answered w w″ p r (stage convertAttach)
 attach-answered {w} e rewritten settled =
     record {
@@ -54,5 +54,5 @@ attach-answered {w} e rewritten settled =
       placed = settled .placed;
     }
 
-pub attach-beyond : {w w′ w″ : List ℕ} {r : Progress} {from n : ℕ} {place : Place} → Rewritten w w′ from n place → Settled w′ w″ place r → Beyond w w″
+pub attach-beyond : {w w′ w″ : List ℕ} {r : Progress} {from n : ℕ} {place : TextPlace} → Rewritten w w′ from n place → Settled w′ w″ place r → Beyond w w″
 attach-beyond rewritten settled = settled .beyond ∙ rewritten .beyond

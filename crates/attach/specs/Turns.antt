@@ -19,27 +19,27 @@ use Rattle.spec.specs.Result.{mostSymbols}
 use Rattle.spec.specs.Calls.{spliced, latexUnderset, attachOnce, attachTimes, convertAttach}
 use Rattle.spec.specs.Symbols.{bytes, _andThen_, find}
 use Rattle.spec.specs.Laws.Symbols.{find-starts}
-use Rattle.search.specs.Search.{Finds, finds-at, finds-within, finds-nothing, until-drop}
+use Rattle.text_search.specs.Search.{Finds, finds-at, finds-within, finds-nothing, until-drop}
 use Rattle.spec.specs.Laws.Absent.{times-none}
-use Rattle.search.specs.declared.Found.{Found}
-use Rattle.search.specs.declared.Found.the-variants as Found
-use Rattle.delimiters.specs.Delimiters.{Called}
-use Rattle.delimiters.specs.First.{Firstly, first-unclosed, first-at, text-finds, name-within, call-from}
-use Rattle.symbols.specs.Parts.{part, length-part, whole-part, sub-part, rest-part}
-use Rattle.symbols.specs.Trim.{spanned}
+use Rattle.text_search.specs.declared.Found.{Found}
+use Rattle.text_search.specs.declared.Found.the-variants as Found
+use Rattle.call_rewriting.specs.Delimiters.{Called}
+use Rattle.call_rewriting.specs.First.{Firstly, first-unclosed, first-at, text-finds, name-within, call-from}
+use Rattle.text_symbols.specs.Parts.{part, length-part, whole-part, sub-part, rest-part}
+use Rattle.text_symbols.specs.Trim.{spanned}
 use Rattle.text.specs.Writer.{Regions, Appended, appended-long}
 use Rattle.text.specs.Written.{appended-text, appended-written, wrote-beyond}
 use Rattle.text.specs.Stage.{Ready, placed-text, placed-fits}
-use Rattle.symbols.specs.declared.Span.{Span}
+use Rattle.text_symbols.specs.declared.Span.{Span}
 use Rattle.text.specs.declared.Progress.{Progress}
 use Rattle.text.specs.declared.Progress.the-variants.{Text}
 use Rattle.attach.specs.Weight.{weight, weight-long, weight-short}
-use Rattle.attach.specs.Once.{Arguments, Fits, latexOf, Attached, underset, underset-light}
+use Rattle.attach.specs.Once.{ArgumentsWithin, AttachmentFits, attachmentLatex, Attached, underset, underset-light}
 use Rattle.attach.specs.declared.Attachment.{Attachment}
 use Rattle.attach.specs.declared.Attachment.the-variants.{At, Nothing}
-use Rattle.attach.specs.declared.Turn.{Turn}
-use Rattle.attach.specs.declared.Turn.the-variants.{To, Done}
-use Rattle.attach.specs.declared.Place.{Place}
+use Rattle.attach.specs.declared.AttachTurn.{AttachTurn}
+use Rattle.attach.specs.declared.AttachTurn.the-variants.{To, Done}
+use Rattle.attach.specs.declared.TextPlace.{TextPlace}
 
 -- ---- the halves of the buffer
 abbrev pub Half : ℕ → ℕ → Type 0
@@ -48,37 +48,37 @@ Half at n = (((at ≡ 0) ⊎ (at ≡ mostSymbols)) × (at + n ≤ 16384)) ⊎ ((
 pub record Halved (w : List ℕ) (at n : ℕ) : Type 0 where
   pub long : 32768 ≤ length w
   pub place : Half at n
-  pub light : weight (part at n w) ≤ 16384
+  pub weight-bounded : weight (part at n w) ≤ 16384
 
 -- the half that a text at this place does not lie in
-abbrev pub other : ℕ → ℕ
-other at = cond (ltb at 16384) 16384 0
+abbrev pub otherHalf : ℕ → ℕ
+otherHalf at = cond (ltb at 16384) 16384 0
 
-other-low : (at : ℕ) → at < 16384 → other at ≡ 16384
-other-low at h = rw (lt-ltb at 16384 h)
+other-half-low : (at : ℕ) → at < 16384 → otherHalf at ≡ 16384
+other-half-low at h = rw (lt-ltb at 16384 h)
 
-other-high : (at : ℕ) → 16384 ≤ at → other at ≡ 0
-other-high at h = rw (le-ltb at 16384 h)
+other-half-high : (at : ℕ) → 16384 ≤ at → otherHalf at ≡ 0
+other-half-high at h = rw (le-ltb at 16384 h)
 
-pub halved-regions : {w : List ℕ} {at n : ℕ} → Halved w at n → Regions w at n (other at) 16384 0
+pub halved-regions : {w : List ℕ} {at n : ℕ} → Halved w at n → Regions w at n (otherHalf at) 16384 0
 halved-regions {w} {at} {n} half = ⊎-elim (λ p. low (p .1) (⊎-elim (λ z. omega arith) (λ z. omega arith) (p .0))) (λ p. high (p .0) (p .1)) (half .place)
   where
-    low : at + n ≤ 16384 → at < 16384 → Regions w at n (other at) 16384 0
+    low : at + n ≤ 16384 → at < 16384 → Regions w at n (otherHalf at) 16384 0
     low fits h =
-        let l = half .long in let o = other-low at h in
+        let l = half .long in let o = other-half-low at h in
         record { source = omega arith; region = omega arith; apart = inl (omega arith); short = omega arith; small = omega arith }
 
-    high : at ≡ 16384 → n ≤ 16384 → Regions w at n (other at) 16384 0
+    high : at ≡ 16384 → n ≤ 16384 → Regions w at n (otherHalf at) 16384 0
     high here fits =
-        let l = half .long in let o = other-high at (omega arith) in
+        let l = half .long in let o = other-half-high at (omega arith) in
         record { source = omega arith; region = omega arith; apart = inr (omega arith); short = omega arith; small = omega arith }
 
-other-place : (at n : ℕ) → n ≤ 16384 → Half (other at) n
-other-place at n h = go (decLt at 16384)
+other-half-place : (at n : ℕ) → n ≤ 16384 → Half (otherHalf at) n
+other-half-place at n h = go (decLt at 16384)
   where
-    go : Dec (at < 16384) → Half (other at) n
-    go (yes l) = inr (other-low at l, h)
-    go (no l) = let o = other-high at (omega arith) in inl (inl o, omega arith)
+    go : Dec (at < 16384) → Half (otherHalf at) n
+    go (yes l) = inr (other-half-low at l, h)
+    go (no l) = let o = other-half-high at (omega arith) in inl (inl o, omega arith)
 
 -- a stage's text lies in the lower half
 pub ready-halved : {w : List ℕ} {p : Progress} {from n : ℕ} → Ready w p → p ≡ Text from n → Halved w from n
@@ -86,18 +86,18 @@ ready-halved {w} {p} {from} {n} ready e =
     let long = ready .long in let placed = placed-text ready e in let short = placed .1 in let fits = placed-fits ready e in
     let l = length-part from n w (omega arith) in
     let light = weight-short (part from n w) in
-    record { long = long; place = inl (placed .0, fits); light = omega arith }
+    record { long = long; place = inl (placed .0, fits); weight-bounded = omega arith }
 
 -- what lies behind both halves is as it was
 abbrev pub Beyond : List ℕ → List ℕ → Type 0
 Beyond w w′ = drop 32768 w′ ≡ drop 32768 w
 
-other-within : (at : ℕ) → other at + 16384 ≤ 32768
-other-within at = go (decLt at 16384)
+other-half-within : (at : ℕ) → otherHalf at + 16384 ≤ 32768
+other-half-within at = go (decLt at 16384)
   where
-    go : Dec (at < 16384) → other at + 16384 ≤ 32768
-    go (yes l) = let o = other-low at l in omega arith
-    go (no l) = let o = other-high at (omega arith) in omega arith
+    go : Dec (at < 16384) → otherHalf at + 16384 ≤ 32768
+    go (yes l) = let o = other-half-low at l in omega arith
+    go (no l) = let o = other-half-high at (omega arith) in omega arith
 
 -- ---- one turn
 abbrev pub undersetAt : List ℕ → ℕ → ℕ → ℕ → ℕ → Span → Span → List ℕ
@@ -107,7 +107,7 @@ undersetAt w from n i k base below =
     ++ part (from + (i + 7 + k + 1)) (from + n - (from + (i + 7 + k + 1))) w
 
 underset-parts :
-    (w : List ℕ) (from n i k : ℕ) {base below : Span} → Arguments (i + 7) k base below → i + 7 + k + 1 ≤ n
+    (w : List ℕ) (from n i k : ℕ) {base below : Span} → ArgumentsWithin (i + 7) k base below → i + 7 + k + 1 ≤ n
     → underset (part from n w) i k (spanned below (part from n w)) (spanned base (part from n w)) ≡ undersetAt w from n i k base below
 underset-parts w from n i k {base} {below} args within =
     let s = part from n w in
@@ -118,13 +118,13 @@ underset-parts w from n i k {base} {below} args within =
     ∙ ap (λ x. part from i w ++ latexUnderset (part (from + below .start) (below .end - below .start) w) (part (from + base .start) (base .end - base .start) w) ++ x)
     (sym (rest-part from n (i + 7 + k + 1) w))
 
-abbrev pub Left : List ℕ → List ℕ → ℕ → ℕ → Turn → Type 0
-Left w w′ at n (To to m) = Halved w′ to m × (attachOnce (part at n w) ≡ some (part to m w′))
-Left w w′ at n Done = (w′ ≡ w) × (attachOnce (part at n w) ≡ none)
+abbrev pub AfterTurn : List ℕ → List ℕ → ℕ → ℕ → AttachTurn → Type 0
+AfterTurn w w′ at n (To to m) = Halved w′ to m × (attachOnce (part at n w) ≡ some (part to m w′))
+AfterTurn w w′ at n Done = (w′ ≡ w) × (attachOnce (part at n w) ≡ none)
 
-pub record Turned (w w′ : List ℕ) (at n : ℕ) (r : Turn) : Type 0 where
+pub record Turned (w w′ : List ℕ) (at n : ℕ) (r : AttachTurn) : Type 0 where
   pub long : length w′ ≡ length w
-  pub left : Left w w′ at n r
+  pub left : AfterTurn w w′ at n r
   pub beyond : Beyond w w′
 
 -- as the searches have found it in the text
@@ -159,7 +159,7 @@ module _ {w : List ℕ} {at n : ℕ} (half : Halved w at n) {r : Found} (finds :
         call-here = let l = length-part at n w (halved-regions half .source) in let g = first .within in omega arith
 
         module _ {a : Attachment} (attached : Attached (part at (at + n - at) w) (i + 7) k a) where
-          once : {b : Attachment} → a ≡ b → attachOnce text ≡ (latexOf text b andThen λ fresh. some (spliced text (drop i text) (bytes "attach(") (part (i + 7) k text) fresh))
+          once : {b : Attachment} → a ≡ b → attachOnce text ≡ (attachmentLatex text b andThen λ fresh. some (spliced text (drop i text) (bytes "attach(") (part (i + 7) k text) fresh))
           unfolding attachOnce
           once {b} g =
               let latex = subst (λ s. Attached s (i + 7) k a) (whole-part at n w) attached .latex in
@@ -169,8 +169,8 @@ module _ {w : List ℕ} {at n : ℕ} (half : Halved w at n) {r : Found} (finds :
           turned-not g = unturned (once g)
 
           module _ {base below : Span} (g : a ≡ At base below) where
-            pub arguments-here : Arguments (i + 7) k base below × (i + 7 + k + 1 ≤ n)
-            arguments-here = (subst (Fits (i + 7) k) g (attached .fits), call-here)
+            pub arguments-here : ArgumentsWithin (i + 7) k base below × (i + 7 + k + 1 ≤ n)
+            arguments-here = (subst (AttachmentFits (i + 7) k) g (attached .fits), call-here)
 
             rewritten : attachOnce text ≡ some (underset text i k (spanned below text) (spanned base text))
             rewritten =
@@ -183,20 +183,20 @@ module _ {w : List ℕ} {at n : ℕ} (half : Halved w at n) {r : Found} (finds :
                 (ap₂ (λ x m. x ++ latex ++ drop (suc (7 + m)) (drop i text)) (until-drop text i (omega arith)) long
                 ∙ ap (λ l. take i text ++ latex ++ l) (drop-drop (suc (7 + k)) i text ∙ ap (λ x. drop x text) next))
 
-            pub turned-to : {w′ : List ℕ} {count : ℕ} → Appended w w′ (other at) 16384 0 count (undersetAt w at n i k base below) → Turned w w′ at n (To (other at) count)
+            pub turned-to : {w′ : List ℕ} {count : ℕ} → Appended w w′ (otherHalf at) 16384 0 count (undersetAt w at n i k base below) → Turned w w′ at n (To (otherHalf at) count)
             turned-to {w′} {count} a =
                 let s = part at n w in
                 let t = underset s i k (spanned below s) (spanned base s) in
                 let same : t ≡ undersetAt w at n i k base below = underset-parts w at n i k (arguments-here .0) (arguments-here .1) in
                 let light : weight t ≤ weight s = underset-light s i k (arguments-here .0) (let l = length-part at n w (halved-regions half .source) in let within = call-here in omega arith) (find-starts (bytes "attach(") s (drop i s) (first .found)) in
-                let before = half .light in let short = weight-long t in let counted = a .counted in let c = ap length same in
+                let before = half .weight-bounded in let short = weight-long t in let counted = a .counted in let c = ap length same in
                 let l = appended-long a in let before-long = half .long in
-                let same-text : part (other at) count w′ ≡ t = appended-text a (halved-regions half .region) (omega arith) ∙ sym same in
+                let same-text : part (otherHalf at) count w′ ≡ t = appended-text a (halved-regions half .region) (omega arith) ∙ sym same in
                 let weighs = ap weight same-text in
                 record {
                   long = l;
-                  left = (record { long = omega arith; place = other-place at count (omega arith); light = omega arith }, rewritten ∙ ap some (sym same-text));
-                  beyond = wrote-beyond {k = 32768} (appended-written a (halved-regions half .region) .wrote) (other-within at);
+                  left = (record { long = omega arith; place = other-half-place at count (omega arith); weight-bounded = omega arith }, rewritten ∙ ap some (sym same-text));
+                  beyond = wrote-beyond {k = 32768} (appended-written a (halved-regions half .region) .wrote) (other-half-within at);
                 }
 
 -- ---- the turns
@@ -206,7 +206,7 @@ pub record Turning (w₀ w : List ℕ) (from n at m k : ℕ) : Type 0 where
   pub beyond : Beyond w₀ w
   pub left : attachTimes (n - k) (part at m w) ≡ attachTimes n (part from n w₀)
 
-pub record Rewritten (w₀ w : List ℕ) (from n : ℕ) (r : Place) : Type 0 where
+pub record Rewritten (w₀ w : List ℕ) (from n : ℕ) (r : TextPlace) : Type 0 where
   pub long : length w ≡ length w₀
   pub half : Halved w (r .at) (r .n)
   pub beyond : Beyond w₀ w
@@ -224,7 +224,7 @@ unfolding convertAttach
 all-times {w₀} {from} {n} half = ap (λ j. attachTimes j (part from n w₀)) (sym (length-part from n w₀ (halved-regions half .source)))
 
 module _ {w₀ w : List ℕ} {from n at m k : ℕ} (turning : Turning w₀ w from n at m k) where
-  pub turning-more : {w′ : List ℕ} {r : Turn} {to count : ℕ} → k < n → Turned w w′ at m r → r ≡ To to count → Turning w₀ w′ from n to count (k + 1)
+  pub turning-more : {w′ : List ℕ} {r : AttachTurn} {to count : ℕ} → k < n → Turned w w′ at m r → r ≡ To to count → Turning w₀ w′ from n to count (k + 1)
   turning-more {w′} more turn e =
       let turned = subst (Turned w w′ at m) e turn in
       let less : suc (n - (k + 1)) ≡ n - k = omega arith in
@@ -235,7 +235,7 @@ module _ {w₀ w : List ℕ} {from n at m k : ℕ} (turning : Turning w₀ w fro
         left = sym (times-some (n - (k + 1)) (part at m w) (turned .left .1)) ∙ ap (λ j. attachTimes j (part at m w)) less ∙ turning .left;
       }
 
-  pub turning-done : {w′ : List ℕ} {r : Turn} → Halved w₀ from n → Turned w w′ at m r → r ≡ Done → Rewritten w₀ w′ from n (record { at = at; n = m })
+  pub turning-done : {w′ : List ℕ} {r : AttachTurn} → Halved w₀ from n → Turned w w′ at m r → r ≡ Done → Rewritten w₀ w′ from n (record { at = at; n = m })
   turning-done {w′} half turn e =
       let turned = subst (Turned w w′ at m) e turn in
       let same = turned .left .0 in

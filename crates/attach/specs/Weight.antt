@@ -12,7 +12,7 @@ use lib.Seq.{drop-drop}
 use Rattle.spec.specs.Symbols.{bytes, is, starts}
 use Rattle.spec.specs.Sweep.{Rule, kept, taken, sweep, replacing, replace}
 use Rattle.spec.specs.Laws.Symbols.{starts-long}
-use Rattle.symbols.specs.Parts.{part}
+use Rattle.text_symbols.specs.Parts.{part}
 
 abbrev pub heavy : ℕ → ℕ
 heavy x = cond (is "a" x || (is "c" x || is "h" x)) 2 1

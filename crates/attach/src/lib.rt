@@ -1,9 +1,9 @@
 // `attach(base, b: bottom)` becomes `\underset{bottom}{base}`: the first call, again and again, until it can't be rewritten. The text
 // goes to and fro between the halves of the work buffer.
-use search::Found;
-use symbols::Class;
-use symbols::Span;
 use text::Progress;
+use text_search::Found;
+use text_symbols::Class;
+use text_symbols::Span;
 ghost use mathlib.Core.Path.{_≡_};
 ghost use mathlib.Core.List.{_++_};
 ghost use Prim.Native.Nat.{_+_, _*_, _≤_};
@@ -12,12 +12,12 @@ ghost use Rattle.spec.specs.Result.{stage};
 ghost use Rattle.spec.specs.Symbols.{bytes};
 ghost use Rattle.spec.specs.Calls.{bottom, subscript, latexUnderset, convertAttach};
 ghost use Rattle.spec.specs.Sweep.{replace};
-ghost use Rattle.symbols.specs.Parts.{part};
+ghost use Rattle.text_symbols.specs.Parts.{part};
 ghost use Rattle.text.specs.Writer.{Appended, Regions};
 ghost use Rattle.text.specs.Stage.{Ready, Answered};
-ghost use Rattle.symbols.specs.Trim.{Within, Narrowed, spanned};
-ghost use Rattle.attach.specs.Once.{Attached, Arguments};
-ghost use Rattle.attach.specs.Turns.{Halved, Beyond, other, undersetAt, Turned, Rewritten};
+ghost use Rattle.text_symbols.specs.Trim.{Within, Narrowed, spanned};
+ghost use Rattle.attach.specs.Once.{Attached, ArgumentsWithin};
+ghost use Rattle.attach.specs.Turns.{Halved, Beyond, otherHalf, undersetAt, Turned, Rewritten};
 ghost use Rattle.attach.specs.Settled.{Settled};
 
 // The length of `attach(`.
@@ -34,10 +34,10 @@ fn bottom_of(s: &[u8], span: Span) -> Span
 {
     let start = span.start;
     let end = span.end;
-    let Found::At(j) = commas::find_unescaped_comma(&s[start..end]) else {
-        return symbols::skip_end(s, span, Class::Only(b')'));
+    let Found::At(j) = call_commas::find_unescaped_comma(&s[start..end]) else {
+        return text_symbols::skip_end(s, span, Class::Only(b')'));
     };
-    symbols::trim(
+    text_symbols::trim(
         s,
         Span {
             start,
@@ -54,10 +54,10 @@ fn subscript_of(s: &[u8], span: Span) -> Span
 {
     let start = span.start;
     let end = span.end;
-    let Found::At(i) = search::find(&s[start..end], b"b:") else {
+    let Found::At(i) = text_search::find(&s[start..end], b"b:") else {
         return Span { start: end, end };
     };
-    let after = symbols::trim(
+    let after = text_symbols::trim(
         s,
         Span {
             start: start + i + 2,
@@ -80,11 +80,11 @@ fn attachment_of(s: &[u8], start: usize, k: usize) -> Attachment
     ensures { λ r. ⌜ Attached (now (s .entry)) start k r ⌝ }
 {
     let end = start + k;
-    let Found::At(j) = commas::find_unescaped_comma(&s[start..end]) else {
+    let Found::At(j) = call_commas::find_unescaped_comma(&s[start..end]) else {
         return Attachment::Nothing;
     };
     let comma = start + j;
-    let base = symbols::trim(s, Span { start, end: comma }, Class::Blank);
+    let base = text_symbols::trim(s, Span { start, end: comma }, Class::Blank);
     let below = subscript_of(
         s,
         Span {
@@ -108,7 +108,7 @@ fn put_subscript(work: &mut [u8], to: usize, count: usize, from: usize, n: usize
     let mut i = 0;
     while i < n {
         let at = from + i;
-        if search::starts_with(&work[at..end], b"\\,") {
+        if text_search::starts_with(&work[at..end], b"\\,") {
             written = text::put_all(work, to, HALF, written, b"\\;");
             i += 2;
             continue;
@@ -160,7 +160,7 @@ fn rewrite_attach(
     below: Span,
 ) -> usize
     requires { ⌜ Regions (now work) from n to 16384 0 ⌝ }
-    requires { ⌜ Arguments (i + 7) k base below × (i + 7 + k + 1 ≤ n) ⌝ }
+    requires { ⌜ ArgumentsWithin (i + 7) k base below × (i + 7 + k + 1 ≤ n) ⌝ }
     ensures { λ r. ⌜ Appended (now (work .entry)) (now (work .exit)) to 16384 0 r (undersetAt (now (work .entry)) from n i k base below) ⌝ }
 {
     let behind = from + (i + OPEN + k + 1);
@@ -179,7 +179,7 @@ fn rewrite_attach(
 
 // The half of the buffer that a text at this place does not lie in.
 fn other_half(at: usize) -> usize
-    ensures { λ r. ⌜ r ≡ other at ⌝ }
+    ensures { λ r. ⌜ r ≡ otherHalf at ⌝ }
 {
     if at < HALF {
         return HALF;
@@ -188,40 +188,40 @@ fn other_half(at: usize) -> usize
 }
 
 // A turn: the place and the length of the text that it has written, or there was nothing to rewrite.
-pub enum Turn {
+pub enum AttachTurn {
     To(usize, usize),
     Done,
 }
 
 // Rewrites the first call in the text of `n` symbols at `at`.
-fn attach_once(work: &mut [u8], at: usize, n: usize) -> Turn
+fn attach_once(work: &mut [u8], at: usize, n: usize) -> AttachTurn
     requires { ⌜ Halved (now work) at n ⌝ }
     ensures { λ r. ⌜ Turned (now (work .entry)) (now (work .exit)) at n r ⌝ }
 {
     let end = at + n;
-    let Found::At(i) = search::find(&work[at..end], b"attach(") else {
-        return Turn::Done;
+    let Found::At(i) = text_search::find(&work[at..end], b"attach(") else {
+        return AttachTurn::Done;
     };
     let open = at + i;
-    let Found::At(k) = delimiters::call_at(&work[open..end], b"attach(") else {
-        return Turn::Done;
+    let Found::At(k) = call_rewriting::call_at(&work[open..end], b"attach(") else {
+        return AttachTurn::Done;
     };
     let Attachment::At(base, below) = attachment_of(&work[at..end], i + OPEN, k) else {
-        return Turn::Done;
+        return AttachTurn::Done;
     };
     let to = other_half(at);
     let count = rewrite_attach(work, at, n, to, i, k, base, below);
-    Turn::To(to, count)
+    AttachTurn::To(to, count)
 }
 
 // Where a text lies in the buffer, and its length.
-pub struct Place {
+pub struct TextPlace {
     pub at: usize,
     pub n: usize,
 }
 
 // Rewrites the text of `n` symbols at `from` in at most `n` turns.
-fn attach_all(work: &mut [u8], from: usize, n: usize) -> Place
+fn attach_all(work: &mut [u8], from: usize, n: usize) -> TextPlace
     requires { ⌜ Halved (now work) from n ⌝ }
     ensures { λ r. ⌜ Rewritten (now (work .entry)) (now (work .exit)) from n r ⌝ }
 {
@@ -229,18 +229,18 @@ fn attach_all(work: &mut [u8], from: usize, n: usize) -> Place
     let mut m = n;
     let mut k = 0;
     while k < n {
-        let Turn::To(to, count) = attach_once(work, at, m) else {
-            return Place { at, n: m };
+        let AttachTurn::To(to, count) = attach_once(work, at, m) else {
+            return TextPlace { at, n: m };
         };
         at = to;
         m = count;
         k += 1;
     }
-    Place { at, n: m }
+    TextPlace { at, n: m }
 }
 
 // Judges the finished text. From the upper half it is brought to the first region.
-fn settle(work: &mut [u8], place: Place) -> Progress
+fn settle(work: &mut [u8], place: TextPlace) -> Progress
     requires { ⌜ Halved (now work) (place .at) (place .n) ⌝ }
     ensures { λ r. ⌜ Settled (now (work .entry)) (now (work .exit)) place r ⌝ }
 {

@@ -11,15 +11,15 @@ use Rattle.spec.specs.Symbols.{bytes, trim, inside}
 use Rattle.spec.specs.Sweep.{taken}
 use Rattle.spec.specs.Closing.{findCommaInArgs}
 use Rattle.spec.specs.Calls.{callAt, callLength, binom}
-use Rattle.symbols.specs.Parts.{part, whole-part, length-part, rest-of, sub-part}
-use Rattle.symbols.specs.Trim.{Narrowed, spanned}
-use Rattle.symbols.specs.declared.Span.{Span}
-use Rattle.search.specs.Search.{Closes, closes-at, closes-within, closes-nothing, inside-drop}
+use Rattle.text_symbols.specs.Parts.{part, whole-part, length-part, rest-of, sub-part}
+use Rattle.text_symbols.specs.Trim.{Narrowed, spanned}
+use Rattle.text_symbols.specs.declared.Span.{Span}
+use Rattle.text_search.specs.Search.{Closes, closes-at, closes-within, closes-nothing, inside-drop}
 use Rattle.text.specs.Writer.{Appended, Apart}
-use Rattle.text.specs.Sweep.{Sweeping, rest, symbols-read, symbols-apart, sweeping-more, sweeping-kept}
-use Rattle.search.specs.declared.Found.{Found}
-use Rattle.search.specs.declared.Found.the-variants.{At, Nothing}
-use Rattle.delimiters.specs.Delimiters.{Called, innerAt, call-read, call-fits}
+use Rattle.text.specs.Sweep.{Sweeping, restFrom, symbols-read, symbols-apart, sweeping-more, sweeping-kept}
+use Rattle.text_search.specs.declared.Found.{Found}
+use Rattle.text_search.specs.declared.Found.the-variants.{At, Nothing}
+use Rattle.call_rewriting.specs.Delimiters.{Called, innerAt, call-read, call-fits}
 
 abbrev pub latexBinom : List ℕ → List ℕ → List ℕ
 latexBinom a b = bytes "\\binom{" ++ a ++ bytes "}{" ++ b ++ bytes "}"
@@ -59,7 +59,7 @@ module _
 -- ---- a turn of the loop: `call_at` has looked at the rest of the text
 module _
     {w₀ w : List ℕ} {from n to cap count₀ count i : ℕ} (sweeping : Sweeping binom w₀ w from n to cap count₀ count i)
-    (more : i < n) {r : Found} (called : Called (bytes "binom(") (rest from n i w) r)
+    (more : i < n) {r : Found} (called : Called (bytes "binom(") (restFrom from n i w) r)
   where
     abbrev here : List ℕ
     here = drop i (part from n w₀)

@@ -1,16 +1,16 @@
 // The stage `binom`: `binom(n, k)` becomes `\binom{n}{k}`. With no comma at its top level a call is copied as ordinary text.
-use delimiters::call_at;
-use delimiters::put_call;
-use search::Found;
-use symbols::Class;
-use symbols::Span;
+use call_rewriting::call_at;
+use call_rewriting::put_call;
 use text::Due;
 use text::Progress;
+use text_search::Found;
+use text_symbols::Class;
+use text_symbols::Span;
 ghost use Prim.Native.Nat.{_+_, _≤_, _<_};
 ghost use lib.ListN.{length};
 ghost use Rattle.spec.specs.Result.{stage};
 ghost use Rattle.spec.specs.Calls.{convertBinom};
-ghost use Rattle.symbols.specs.Parts.{part};
+ghost use Rattle.text_symbols.specs.Parts.{part};
 ghost use Rattle.text.specs.Writer.{Room, Appended, Apart, Regions};
 ghost use Rattle.text.specs.Stage.{Ready, Staged};
 ghost use Rattle.binom.specs.Binom.{latexBinom, parted};
@@ -54,7 +54,7 @@ fn put_parted(
     ensures { λ r. ⌜ Appended (now (work .entry)) (now (work .exit)) to 8192 count r (parted (part inside k (now (work .entry))) comma) × (r ≤ count + (k + 64)) ⌝ }
 {
     let close = inside + k;
-    let first = symbols::trim(
+    let first = text_symbols::trim(
         &work[inside..close],
         Span {
             start: 0,
@@ -62,7 +62,7 @@ fn put_parted(
         },
         Class::Blank,
     );
-    let second = symbols::trim(
+    let second = text_symbols::trim(
         &work[inside..close],
         Span {
             start: comma + 1,
@@ -98,7 +98,7 @@ fn rewrite_binoms(work: &mut [u8], from: usize, n: usize, to: usize) -> usize
         };
         let inside = at + OPEN;
         let close = inside + k;
-        let Found::At(comma) = commas::find_comma_in_args(&work[inside..close]) else {
+        let Found::At(comma) = call_commas::find_comma_in_args(&work[inside..close]) else {
             count = text::copy_one(work, at, to, text::CAP, count);
             i += 1;
             continue;

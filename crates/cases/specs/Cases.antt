@@ -16,13 +16,13 @@ use borrow.Author.Tests.{lt-ltb, le-ltb}
 use Rattle.spec.specs.Symbols.{bytes, trim, find}
 use Rattle.spec.specs.Closing.{splitTopLevelCommas}
 use Rattle.spec.specs.Calls.{nonblank, joined, callAt, latexCases, casesOnce, convertCases}
-use Rattle.symbols.specs.Parts.{part, whole-part, sub-part, rest-part, length-part}
-use Rattle.symbols.specs.Trim.{Narrowed}
-use Rattle.search.specs.Search.{until-drop}
+use Rattle.text_symbols.specs.Parts.{part, whole-part, sub-part, rest-part, length-part}
+use Rattle.text_symbols.specs.Trim.{Narrowed}
+use Rattle.text_search.specs.Search.{until-drop}
 use Rattle.text.specs.Writer.{Regions, Appended, appended-none, appended-more, appended-part}
-use Rattle.symbols.specs.declared.Span.{Span}
-use Rattle.commas.specs.Split.{Splits, partsBehind}
-use Rattle.delimiters.specs.First.{Firstly}
+use Rattle.text_symbols.specs.declared.Span.{Span}
+use Rattle.call_commas.specs.Split.{Splits, partsBehind}
+use Rattle.call_rewriting.specs.First.{Firstly}
 use Rattle.cases.specs.declared.Branch.{Branch}
 
 -- a branch that is not the first stands behind a separator
@@ -94,22 +94,22 @@ nonblank-some (x ∷ b) bs h = refl
 pub record Branching (s w₀ w : List ℕ) (to cap count₀ count : ℕ) (later : Bool) (start : ℕ) : Type 0 where
   pub out : List ℕ
   pub appended : Appended w₀ w to cap count₀ count out
-  pub so-far : out ++ added later (nonblank (map trim (partsFrom s start))) ≡ branches s
-  pub slow : count ≤ count₀ + 8 * start
+  pub same-as-whole : out ++ added later (nonblank (map trim (partsFrom s start))) ≡ branches s
+  pub bounded : count ≤ count₀ + 8 * start
 
 pub branching-none : (s w : List ℕ) (to cap count : ℕ) → Branching s w w to cap count count false 0
 branching-none s w to cap count =
     record {
       out = [];
       appended = appended-none w to cap count;
-      so-far = ap (λ b. joined (bytes " \\\\ ") (nonblank (map trim (cond b [] (splitTopLevelCommas s))))) (le-ltb (length s) 0 (omega arith));
-      slow = omega arith;
+      same-as-whole = ap (λ b. joined (bytes " \\\\ ") (nonblank (map trim (cond b [] (splitTopLevelCommas s))))) (le-ltb (length s) 0 (omega arith));
+      bounded = omega arith;
     }
 
 pub branching-all : {s w₀ w : List ℕ} {to cap count₀ count : ℕ} {later : Bool} {start : ℕ} → Branching s w₀ w to cap count₀ count later start → length s < start → Appended w₀ w to cap count₀ count (branches s)
 branching-all {s} {w₀} {w} {to} {cap} {count₀} {count} {later} {start} b h =
     subst (λ out. Appended w₀ w to cap count₀ count out)
-    (sym (append-nil (b .out)) ∙ ap (λ l. b .out ++ l) (sym (nothing later ∙ refl)) ∙ b .so-far) (b .appended)
+    (sym (append-nil (b .out)) ∙ ap (λ l. b .out ++ l) (sym (nothing later ∙ refl)) ∙ b .same-as-whole) (b .appended)
   where
     none-left : (later : Bool) → added later (nonblank (map trim [])) ≡ []
     none-left false = refl
@@ -123,22 +123,22 @@ module _
   where
     pub branching-blank : r .end - r .start ≡ 0 → Branching s w₀ w to cap count₀ count later (r .next)
     branching-blank e =
-        let n = b .slow in let l = at .low in let o = at .order in let h = at .high in
+        let n = b .bounded in let l = at .low in let o = at .order in let h = at .high in
         record {
           out = b .out;
           appended = b .appended;
-          so-far =
+          same-as-whole =
               ap (λ bs. b .out ++ added later bs)
               (sym (ap nonblank (at .parts) ∙ nonblank-none (part (r .start) (r .end - r .start) s) (map trim (partsFrom s (r .next))) (ap (λ k. length (take k (drop (r .start) s))) e)))
-              ∙ b .so-far;
-          slow = omega arith;
+              ∙ b .same-as-whole;
+          bounded = omega arith;
         }
 
     pub branching-more :
         {w′ : List ℕ} {count′ : ℕ} → 0 < r .end - r .start → Appended w w′ to cap count count′ (separator later ++ part (r .start) (r .end - r .start) s)
         → Branching s w₀ w′ to cap count₀ count′ true (r .next)
     branching-more {w′} {count′} e a =
-        let n = b .slow in let l = at .low in let o = at .order in let h = at .high in let w = at .within in
+        let n = b .bounded in let l = at .low in let o = at .order in let h = at .high in let w = at .within in
         let branch = part (r .start) (r .end - r .start) s in
         let long : length branch ≡ r .end - r .start = length-part (r .start) (r .end - r .start) s (omega arith) in
         let bs = nonblank (map trim (partsFrom s (r .next))) in
@@ -147,11 +147,11 @@ module _
         record {
           out = b .out ++ (separator later ++ branch);
           appended = appended-more (b .appended) a;
-          so-far =
+          same-as-whole =
               append-assoc (b .out) (separator later ++ branch) (added true bs)
               ∙ ap (λ t. b .out ++ t) (sym (ap (added later) (ap nonblank (at .parts) ∙ nonblank-some branch (map trim (partsFrom s (r .next))) (omega arith)) ∙ added-first later branch bs))
-              ∙ b .so-far;
-          slow = omega arith;
+              ∙ b .same-as-whole;
+          bounded = omega arith;
         }
       where
         separator-short : (later : Bool) → length (separator later) ≤ 4

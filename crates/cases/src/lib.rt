@@ -1,16 +1,16 @@
 // `cases(..)` becomes LaTeX's environment of that name: its first occurrence only, and only if that one is closed. Its branches are
 // parted by commas at the top level; blank ones are dropped.
-use search::Found;
-use symbols::Class;
-use symbols::Span;
 use text::Due;
 use text::Progress;
+use text_search::Found;
+use text_symbols::Class;
+use text_symbols::Span;
 ghost use Prim.Native.Nat.{_+_, _-_, _*_, _≤_};
 ghost use mathlib.Core.List.{_++_};
 ghost use lib.ListN.{length};
 ghost use Rattle.spec.specs.Result.{stage};
 ghost use Rattle.spec.specs.Calls.{latexCases, convertCases};
-ghost use Rattle.symbols.specs.Parts.{part};
+ghost use Rattle.text_symbols.specs.Parts.{part};
 ghost use Rattle.text.specs.Writer.{Room, Appended, Apart, Regions};
 ghost use Rattle.text.specs.Stage.{Ready, Staged};
 ghost use Rattle.cases.specs.Cases.{Branched, separator, branches};
@@ -27,8 +27,8 @@ fn branch_at(s: &[u8], start: usize) -> Branch
     requires { ⌜ (start ≤ length (now s)) × (length (now s) ≤ 8192) ⌝ }
     ensures { λ r. ⌜ Branched (now (s .entry)) start r ⌝ }
 {
-    let comma = commas::split_top_level_commas(s, start);
-    let span = symbols::trim(s, Span { start, end: comma }, Class::Blank);
+    let comma = call_commas::split_top_level_commas(s, start);
+    let span = text_symbols::trim(s, Span { start, end: comma }, Class::Blank);
     Branch {
         start: span.start,
         end: span.end,
@@ -104,7 +104,7 @@ pub fn convert_cases(work: &mut [u8], text: Progress) -> Progress
     };
     let at = from + i;
     let end = from + n;
-    let Found::At(k) = delimiters::call_at(&work[at..end], b"cases(") else {
+    let Found::At(k) = call_rewriting::call_at(&work[at..end], b"cases(") else {
         return text;
     };
     let count = rewrite_cases(work, from, n, to, i, k);

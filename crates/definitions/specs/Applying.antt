@@ -1,7 +1,7 @@
 -- Definitions one after another, while `\text` blocks are held out.
 --     sizedDefinitions     the stages, on a text with marks
 --     definitions-held     they are those of the definitions on what is held
---     Left                 the loop: the definitions from a cursor on are left, and all of them may be applied
+--     DefinitionsLeft      the loop: the definitions from a cursor on are left, and all of them may be applied
 -- Assumes nothing.
 use mathlib.Core.Path.{_≡_, refl, sym, ap, _∙_, subst}
 use mathlib.Core.Bool.{Bool, true, false, cond}
@@ -18,22 +18,22 @@ use Rattle.spec.specs.Held.{Held, withText, heldStage, holdTexts, putBack}
 use Rattle.spec.specs.Table.{Definition, definitions, byLength}
 use Rattle.spec.specs.Definitions.{defined, applyDefinition, applyDefinitions, applyDefinitionsOutsideText}
 use Rattle.spec.specs.Laws.Table.{rearranged-by-length, sound-name-some}
-use Rattle.symbols.specs.Parts.{length-part}
+use Rattle.text_symbols.specs.Parts.{length-part}
 use Rattle.text.specs.Stage.{Ready, shown}
 use Rattle.text.specs.declared.Progress.{Progress}
 use Rattle.held_laws.specs.WellMade.{WellMade}
 use Rattle.held_laws.specs.Rewriting.{sweep-made}
-use Rattle.held_laws.specs.Instances.{Sound, EverySound, defined-between, sound-table, sound-order, definitions-made}
-use Rattle.entries.specs.Bounded.{Fair}
-use Rattle.entries.specs.Sized.{sized, Within, Applied, StagedWithin, Remaining, remaining-none, remaining-step}
+use Rattle.held_laws.specs.Instances.{SoundDefinition, EverySound, defined-between, sound-table, sound-order, definitions-made}
+use Rattle.name_entry.specs.Bounded.{EntryTextsFit}
+use Rattle.name_entry.specs.Sized.{sized, FitsWithBlocks, Applied, StagedWithin, Remaining, remaining-none, remaining-step}
 use Rattle.table.specs.declared.Record.{Record}
 use Rattle.table.specs.declared.order.Cursor.{Cursor}
 use Rattle.table.specs.Reading.{Lies, Short, definitionAt, length-name}
 use Rattle.table.specs.Order.{remaining, Begins}
 use Rattle.table.specs.Sorted.{begins-order}
 use Rattle.table.specs.Sound.{definitions-some}
-use Rattle.blocks.specs.Outside.{Extra}
-use Rattle.blocks.specs.Carried.{held-sized}
+use Rattle.held_stages.specs.Outside.{Extra}
+use Rattle.held_stages.specs.Carried.{held-sized}
 
 unfoldable pub sizedDefinition : ℕ → Definition → List ℕ → Result (List ℕ)
 sizedDefinition extra d s = cond (eqb (length (d .name)) 1) (passed s) (sized extra (applyDefinition d) s)
@@ -49,19 +49,19 @@ pub record Usable (table : List ℕ) (r : Record) : Type 0 where
   pub some-name : r .name < r .latex
 
 module _ {table : List ℕ} {r : Record} (usable : Usable table r) where
-  pub record-fair : Fair (definitionAt table r .name) (definitionAt table r .latex)
+  pub record-fair : EntryTextsFit (definitionAt table r .name) (definitionAt table r .latex)
   record-fair =
       let l = usable .lies in let n = length-name l in let s = usable .short in let m = usable .some-name in
       let w = l .written in let i = l .inside in
       let x = length-part (r .latex) (r .next - r .latex) table (omega arith) in
-      record { some = omega arith; short = omega arith; few = omega arith }
+      record { positive = omega arith; short = omega arith; few = omega arith }
 
   -- a name of one byte is skipped
-  pub skipped :
-      {w : List ℕ} {p : Progress} {extra : ℕ} → r .latex - r .name ≡ 1 → Ready w p → Within extra p
+  pub one-byte-skipped :
+      {w : List ℕ} {p : Progress} {extra : ℕ} → r .latex - r .name ≡ 1 → Ready w p → FitsWithBlocks extra p
       → StagedWithin w w p p extra (sizedDefinition extra (definitionAt table r))
   unfolding sizedDefinition
-  skipped {w} {p} {extra} one ready within =
+  one-byte-skipped {w} {p} {extra} one ready within =
       let n = length-name (usable .lies) in
       let e = eq-eqb (length (definitionAt table r .name)) 1 (n ∙ one) in
       record {
@@ -104,12 +104,12 @@ module _ {table : List ℕ} {r : Record} (usable : Usable table r) where
       go e (refused k) = refl
 
 -- ---- the loop
-pub record Left (table : List ℕ) (c : Cursor) (ds : List Definition) (extra : ℕ) (w₀ w : List ℕ) (p₀ p : Progress) : Type 0 where
+pub record DefinitionsLeft (table : List ℕ) (c : Cursor) (ds : List Definition) (extra : ℕ) (w₀ w : List ℕ) (p₀ p : Progress) : Type 0 where
   pub sound : EverySound (remaining table c)
   pub stages : Remaining w₀ w p₀ p extra (sizedDefinitions extra (byLength ds)) (sizedDefinitions extra (remaining table c))
 
 module _ (table : List ℕ) (c c′ : Cursor) (r : Record) (next : remaining table c ≡ definitionAt table r ∷ remaining table c′) where
-  sound-both : EverySound (remaining table c) → Sound (definitionAt table r) × EverySound (remaining table c′)
+  sound-both : EverySound (remaining table c) → SoundDefinition (definitionAt table r) × EverySound (remaining table c′)
   unfolding EverySound
   sound-both all = subst EverySound next all
 
@@ -117,9 +117,9 @@ module _ (table : List ℕ) (c c′ : Cursor) (r : Record) (next : remaining tab
   next-usable all l short = let n = length-name l in let m = sound-name-some (definitionAt table r .name) (sound-both all .0 .name) in record { lies = l; short = short; some-name = omega arith }
 
   pub left-more :
-      {ds : List Definition} {extra : ℕ} {w₀ w w′ : List ℕ} {p₀ p p′ : Progress} → Left table c ds extra w₀ w p₀ p
+      {ds : List Definition} {extra : ℕ} {w₀ w w′ : List ℕ} {p₀ p p′ : Progress} → DefinitionsLeft table c ds extra w₀ w p₀ p
       → StagedWithin w w′ p p′ extra (sizedDefinition extra (definitionAt table r))
-      → Left table c′ ds extra w₀ w′ p₀ p′
+      → DefinitionsLeft table c′ ds extra w₀ w′ p₀ p′
   unfolding sizedDefinitions
   left-more {extra = extra} left a =
       record {
@@ -135,8 +135,8 @@ pub order-sound : (table : List ℕ) (ds : List Definition) → definitions tabl
 order-sound table ds e = sound-order (rearranged-by-length ds) (sound-table ds (definitions-some table ds e .1))
 
 pub left-none :
-    (table : List ℕ) (c : Cursor) (ds : List Definition) (extra : ℕ) {w : List ℕ} {p : Progress} → Begins table c → definitions table ≡ some ds → Ready w p → Within extra p
-    → Left table c ds extra w w p p
+    (table : List ℕ) (c : Cursor) (ds : List Definition) (extra : ℕ) {w : List ℕ} {p : Progress} → Begins table c → definitions table ≡ some ds → Ready w p → FitsWithBlocks extra p
+    → DefinitionsLeft table c ds extra w w p p
 left-none table c ds extra {w} {p} begins e ready within =
     let all = sym (begins-order table c ds begins e) in
     record {

@@ -1,8 +1,8 @@
 // The definitions of the table, applied outside of `\text{..}` blocks.
-use entries::Bounds;
+use name_entry::Bounds;
 use table::Cursor;
+use table::NextRecord;
 use table::Record;
-use table::Step;
 use text::Progress;
 ghost use mathlib.Core.Path.{_≡_};
 ghost use mathlib.Core.Bool.{false};
@@ -11,10 +11,10 @@ ghost use mathlib.Core.Option.{some};
 ghost use Rattle.spec.specs.Table.{Definition, definitions, byLength};
 ghost use Rattle.spec.specs.Definitions.{applyDefinitionsOutsideText};
 ghost use Rattle.text.specs.Stage.{Ready, Answered};
-ghost use Rattle.entries.specs.Sized.{Within, StagedWithin};
+ghost use Rattle.name_entry.specs.Sized.{FitsWithBlocks, StagedWithin};
 ghost use Rattle.table.specs.Reading.{definitionAt};
 ghost use Rattle.table.specs.Sound.{refused};
-ghost use Rattle.blocks.specs.Outside.{Unmarked};
+ghost use Rattle.held_stages.specs.Outside.{UnmarkedProgress};
 ghost use Rattle.definitions.specs.Applying.{Usable, sizedDefinition, sizedDefinitions};
 
 // Applies one definition. Names of one byte are skipped.
@@ -26,7 +26,7 @@ fn apply_definition(
     found: Record,
 ) -> Progress
     requires { ⌜ Ready (now work) text ⌝ }
-    requires { ⌜ Within extra text ⌝ }
+    requires { ⌜ FitsWithBlocks extra text ⌝ }
     requires { ⌜ Usable (now table) found ⌝ }
     ensures { λ r. ⌜ StagedWithin (now (work .entry)) (now (work .exit)) text r extra (sizedDefinition extra (definitionAt (now (table .entry)) found)) ⌝ }
 {
@@ -36,7 +36,7 @@ fn apply_definition(
     if middle - start == 1 {
         return text;
     }
-    entries::apply(
+    name_entry::apply(
         work,
         text,
         extra,
@@ -49,14 +49,14 @@ fn apply_definition(
 // Applies all of them, longer names first, each a stage of its own.
 fn apply_definitions(work: &mut [u8], text: Progress, extra: usize, table: &[u8]) -> Progress
     requires { ⌜ Ready (now work) text ⌝ }
-    requires { ⌜ Within extra text ⌝ }
+    requires { ⌜ FitsWithBlocks extra text ⌝ }
     requires { ⌜ refused (definitions (now table)) ≡ false ⌝ }
     ensures { λ r. ⌜ ((ds : List Definition) → definitions (now (table .entry)) ≡ some ds → StagedWithin (now (work .entry)) (now (work .exit)) text r extra (sizedDefinitions extra (byLength ds))) ⌝ }
 {
     let mut done = text;
     let mut cursor = Cursor::start(table);
     loop {
-        let Step::Next(found, next) = cursor.next(table) else {
+        let NextRecord::Next(found, next) = cursor.next(table) else {
             return done;
         };
         done = apply_definition(work, done, extra, table, found);
@@ -67,15 +67,15 @@ fn apply_definitions(work: &mut [u8], text: Progress, extra: usize, table: &[u8]
 // The stages of the definitions of a table that number 3 lets pass, and number 6. Lengths count the held blocks in full.
 pub fn apply_definitions_outside_text(work: &mut [u8], text: Progress, table: &[u8]) -> Progress
     requires { ⌜ Ready (now work) text ⌝ }
-    requires { ⌜ Unmarked (now work) text ⌝ }
+    requires { ⌜ UnmarkedProgress (now work) text ⌝ }
     requires { ⌜ refused (definitions (now table)) ≡ false ⌝ }
     ensures { λ r. ⌜ ((ds : List Definition) → definitions (now (table .entry)) ≡ some ds → Answered (now (work .entry)) (now (work .exit)) text r (applyDefinitionsOutsideText (byLength ds))) ⌝ }
 {
     let Progress::Text(from, n) = text else {
         return text;
     };
-    let held = blocks::hold_texts(work, from, n);
+    let held = held_stages::hold_texts(work, from, n);
     let outside = Progress::Text(held.at, held.len);
     let defined = apply_definitions(work, outside, held.extra, table);
-    blocks::put_all_back(work, defined, held.texts, held.used)
+    held_stages::put_all_back(work, defined, held.texts, held.used)
 }

@@ -7,7 +7,7 @@ use Prim.Native.Nat.{ℕ}
 use lib.ListN.{take}
 use Rattle.spec.specs.Grammar.{Plain}
 use Rattle.spec.specs.Pipeline.{Call}
-use Rattle.printing.specs.Calls.{empty-table, calls-apart}
+use Rattle.plain_printing.specs.Calls.{empty-table, calls-apart}
 use Rattle.math_conv.specs.Answer.{meaning}
 use Rattle.math_conv.specs.declared.Answer.{Answer}
 use Rattle.math_conv.specs.declared.Answer.the-variants.{Done}

@@ -15,7 +15,7 @@ use Rattle.spec.specs.Rows.{Row}
 use Rattle.spec.specs.Table.{Definition}
 use Rattle.spec.specs.Pipeline.{mostFormula, leastWork, admitted, typstToLatex, fitting, converted, answerOf, outputAfter, workAfter, Call}
 use Rattle.spec.specs.Starred.{starred, starred-hold}
-use Rattle.printing.specs.Calls.{empty-table, order-none}
+use Rattle.plain_printing.specs.Calls.{empty-table, order-none}
 use Rattle.math_conv.specs.Answer.{meaning}
 use Rattle.math_conv.specs.declared.Answer.{Answer}
 use Rattle.math_conv.specs.declared.Answer.the-variants.{Done, Refused}

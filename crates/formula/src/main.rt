@@ -10,15 +10,15 @@ use formula_text::TEXT;
 use formula_text::WORK;
 use libc::STDIN_FILENO;
 use libc::STDOUT_FILENO;
-use reading::Taken;
+use reading::BytesRead;
 
 fn main() {
     let mut input = [0; INPUT];
-    let Taken::Bytes(n) = reading::read_all(STDIN_FILENO, b"standard input", &mut input) else {
+    let BytesRead::Bytes(n) = reading::read_all(STDIN_FILENO, b"standard input", &mut input) else {
         return;
     };
     let mut table = [0; TABLE];
-    let Taken::Bytes(m) = read_table(&input, n, &mut table) else {
+    let BytesRead::Bytes(m) = read_table(&input, n, &mut table) else {
         return;
     };
     let mut work = [0; WORK];
@@ -31,9 +31,9 @@ fn main() {
 }
 
 // A table that the answer does not depend on is not read.
-fn read_table(input: &[u8; INPUT], n: usize, table: &mut [u8]) -> Taken {
+fn read_table(input: &[u8; INPUT], n: usize, table: &mut [u8]) -> BytesRead {
     if !formula_text::wants_table(input, n) {
-        return Taken::Bytes(0);
+        return BytesRead::Bytes(0);
     }
     reading::read_file(b"sheet.defs", table)
 }

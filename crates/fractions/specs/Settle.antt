@@ -17,7 +17,7 @@ use Rattle.spec.specs.Result.{Result, passed, refused, mostSymbols}
 use Rattle.spec.specs.Fractions.{fractionsFrom, convertRegularFractions, settle, convertFractions}
 use Rattle.spec.specs.Laws.Names.{same-refl, same-other-length}
 use Rattle.spec.specs.Laws.Symbols.{find-nowhere}
-use Rattle.symbols.specs.Parts.{part, length-part, whole-part}
+use Rattle.text_symbols.specs.Parts.{part, length-part, whole-part}
 use Rattle.text.specs.Written.{Wrote, wrote-less, wrote-text, wrote-apart, wrote-beyond}
 use Rattle.text.specs.Stage.{shown, Placed, Ready, Staged, placed-text, placed-regions}
 use Rattle.text.specs.declared.Refusal.the-variants.{Overgrown, Unsettled, BarredSolidus}
@@ -27,34 +27,34 @@ use Rattle.fractions.specs.declared.Outcome.{Outcome}
 use Rattle.fractions.specs.declared.Outcome.the-variants as Outcome
 use Rattle.fractions.specs.declared.Round.{Round}
 use Rattle.fractions.specs.declared.Round.the-variants as Round
-use Rattle.fractions.specs.Turn.{size, finished, Rounded}
+use Rattle.fractions.specs.Turn.{outcomeLength, outcomeText, Rounded}
 
 -- ---- what a round makes of a text
-pub data Next : Type 0 where
-  unchanged : Next
-  changed : List ℕ → Next
-  barred : Next
+pub data NextText : Type 0 where
+  unchanged : NextText
+  changed : List ℕ → NextText
+  barred : NextText
 
-abbrev nextOf : List ℕ → Option (List ℕ) → Next
+abbrev nextOf : List ℕ → Option (List ℕ) → NextText
 nextOf s none = barred
 nextOf s (some t) = cond (same t s) unchanged (changed t)
 
-unfoldable pub next : List ℕ → Next
-next s = nextOf s (convertRegularFractions s)
+unfoldable pub afterRound : List ℕ → NextText
+afterRound s = nextOf s (convertRegularFractions s)
 
 -- the rounds, by what the next one makes of the text
-abbrev lastOf : List ℕ → Next → Result (List ℕ)
+abbrev lastOf : List ℕ → NextText → Result (List ℕ)
 lastOf s unchanged = passed s
 lastOf s (changed t) = refused 7
 lastOf s barred = refused 7
 
-abbrev moreOf : ℕ → List ℕ → Next → Result (List ℕ)
+abbrev moreOf : ℕ → List ℕ → NextText → Result (List ℕ)
 moreOf k s unchanged = passed s
 moreOf k s (changed t) = cond (ltb mostSymbols (length t)) (refused 5) (settle k t)
 moreOf k s barred = refused 9
 
-settle-last : (s : List ℕ) → settle 0 s ≡ lastOf s (next s)
-unfolding settle next
+settle-last : (s : List ℕ) → settle 0 s ≡ lastOf s (afterRound s)
+unfolding settle afterRound
 settle-last s = go (convertRegularFractions s)
   where
     by : (t : List ℕ) (b : Bool) → cond b (passed s) (refused 7) ≡ lastOf s (cond b unchanged (changed t))
@@ -65,8 +65,8 @@ settle-last s = go (convertRegularFractions s)
     go none = refl
     go (some t) = by t (same t s)
 
-settle-more : (k : ℕ) (s : List ℕ) → settle (suc k) s ≡ moreOf k s (next s)
-unfolding settle next
+settle-more : (k : ℕ) (s : List ℕ) → settle (suc k) s ≡ moreOf k s (afterRound s)
+unfolding settle afterRound
 settle-more k s = go (convertRegularFractions s)
   where
     grown : (t : List ℕ) (b : Bool) → elim b [ true ↦ refused 5 | false ↦ settle k t ] ≡ cond b (refused 5) (settle k t)
@@ -84,7 +84,7 @@ settle-more k s = go (convertRegularFractions s)
     go (some t) = by t (same t s)
 
 -- ---- one round in code, from one region to the other
-abbrev pub nextAs : Round → List ℕ → Next
+abbrev pub nextAs : Round → List ℕ → NextText
 nextAs Round.Unchanged t = unchanged
 nextAs (Round.Changed n) t = changed t
 nextAs Round.Barred t = barred
@@ -96,22 +96,22 @@ grownTo Round.Barred = 0
 
 pub record Stepped (w₀ w : List ℕ) (from n : ℕ) (r : Round) : Type 0 where
   pub out : List ℕ
-  pub decides : nextAs r out ≡ next (part from n w₀)
+  pub decides : nextAs r out ≡ afterRound (part from n w₀)
   pub counted : grownTo r ≡ length out
   pub wrote : Wrote w₀ w (8192 - from) 8192 out
 
 module _ {w₀ w : List ℕ} {from n : ℕ} {r : Outcome} (ready : Ready w₀ (Text from n)) (d : Rounded (part from n w₀) w₀ w (8192 - from) r) where
   pub step-barred : r ≡ Outcome.Barred → Stepped w₀ w from n Round.Barred
-  unfolding next
-  step-barred e = record { out = []; decides = ap (nextOf (part from n w₀)) (sym (ap (λ x. finished x (d .out)) e) ∙ d .decides); counted = refl; wrote = wrote-less 0 (d .wrote) }
+  unfolding afterRound
+  step-barred e = record { out = []; decides = ap (nextOf (part from n w₀)) (sym (ap (λ x. outcomeText x (d .out)) e) ∙ d .decides); counted = refl; wrote = wrote-less 0 (d .wrote) }
 
   module _ {count : ℕ} (done : r ≡ Outcome.Done count) where
     length-out : count ≡ length (d .out)
-    length-out = sym (ap size done) ∙ d .counted
+    length-out = sym (ap outcomeLength done) ∙ d .counted
 
-    step-next : {b : Bool} → same (d .out) (part from n w₀) ≡ b → next (part from n w₀) ≡ cond b unchanged (changed (d .out))
-    unfolding next
-    step-next e = ap (nextOf (part from n w₀)) (sym (d .decides) ∙ ap (λ x. finished x (d .out)) done) ∙ ap (λ x. cond x unchanged (changed (d .out))) e
+    step-next : {b : Bool} → same (d .out) (part from n w₀) ≡ b → afterRound (part from n w₀) ≡ cond b unchanged (changed (d .out))
+    unfolding afterRound
+    step-next e = ap (nextOf (part from n w₀)) (sym (d .decides) ∙ ap (λ x. outcomeText x (d .out)) done) ∙ ap (λ x. cond x unchanged (changed (d .out))) e
 
     differs : same (d .out) (part from n w₀) ≡ false → Stepped w₀ w from n (Round.Changed count)
     differs e = record { out = d .out; decides = sym (step-next e); counted = length-out; wrote = d .wrote }
@@ -141,7 +141,7 @@ module _ {w₀ w : List ℕ} {from n : ℕ} {r : Outcome} (ready : Ready w₀ (T
 
 -- ---- what a round leaves as it was
 module _ {w₀ w : List ℕ} {from n : ℕ} {r : Round} (ready : Ready w₀ (Text from n)) (d : Stepped w₀ w from n r) where
-  told : {x : Round} → r ≡ x → next (part from n w₀) ≡ nextAs x (d .out)
+  told : {x : Round} → r ≡ x → afterRound (part from n w₀) ≡ nextAs x (d .out)
   told e = sym (d .decides) ∙ ap (λ x. nextAs x (d .out)) e
 
   source-kept : part from n w ≡ part from n w₀
@@ -151,7 +151,7 @@ module _ {w₀ w : List ℕ} {from n : ℕ} {r : Round} (ready : Ready w₀ (Tex
   beyond-kept = wrote-beyond {k = 16384} (d .wrote) (⊎-elim (λ z. omega arith) (λ z. omega arith) (placed-text ready refl .0))
 
   -- the round after the last that may change the text
-  last-answer : {x : Progress} → shown x w ≡ lastOf (part from n w₀) (next (part from n w₀)) → Placed x → Staged w₀ w (Text from n) x (settle 0)
+  last-answer : {x : Progress} → shown x w ≡ lastOf (part from n w₀) (afterRound (part from n w₀)) → Placed x → Staged w₀ w (Text from n) x (settle 0)
   last-answer e p = record { answered = record { answer = e ∙ sym (settle-last (part from n w₀)); long = d .wrote .long; placed = p }; beyond = beyond-kept }
 
   pub last-unchanged : r ≡ Round.Unchanged → Staged w₀ w (Text from n) (Text from n) (settle 0)
@@ -165,13 +165,13 @@ module _ {w₀ w : List ℕ} {from n : ℕ} {r : Round} (ready : Ready w₀ (Tex
 
 -- ---- the rounds: the text of n symbols at `from` has become that of `len` symbols at `at`
 pub record Going (w₀ w : List ℕ) (from n at len k : ℕ) : Type 0 where
-  pub so-far : settle 64 (part from n w₀) ≡ settle (64 - k) (part at len w)
+  pub same-as-whole : settle 64 (part from n w₀) ≡ settle (64 - k) (part at len w)
   pub ready : Ready w (Text at len)
   pub long : length w ≡ length w₀
   pub beyond : drop 16384 w ≡ drop 16384 w₀
 
 pub going-none : {w : List ℕ} {from n : ℕ} → Ready w (Text from n) → Going w w from n from n 0
-going-none ready = record { so-far = refl; ready = ready; long = refl; beyond = refl }
+going-none ready = record { same-as-whole = refl; ready = ready; long = refl; beyond = refl }
 
 -- no round may change the text any more
 pub going-last : {w₀ w w′ : List ℕ} {from n at len k : ℕ} {r : Progress} → Going w₀ w from n at len k → 64 ≤ k → Staged w w′ (Text at len) r (settle 0) → Staged w₀ w′ (Text from n) r convertFractions
@@ -180,7 +180,7 @@ going-last {w = w} {at = at} {len} {k} g all a =
     let z : 64 - k ≡ 0 = omega arith in
     record {
       answered = record {
-        answer = a .answered .answer ∙ sym (g .so-far ∙ ap (λ j. settle j (part at len w)) z);
+        answer = a .answered .answer ∙ sym (g .same-as-whole ∙ ap (λ j. settle j (part at len w)) z);
         long = a .answered .long ∙ g .long;
         placed = a .answered .placed;
       };
@@ -191,7 +191,7 @@ module _ {w₀ w w′ : List ℕ} {from n at len k : ℕ} {r : Round} (g : Going
   rounds-more : {x : Round} → r ≡ x → settle 64 (part from n w₀) ≡ moreOf (64 - (k + 1)) (part at len w) (nextAs x (d .out))
   rounds-more e =
       let f : 64 - k ≡ suc (64 - (k + 1)) = omega arith in
-      g .so-far ∙ ap (λ j. settle j (part at len w)) f ∙ settle-more (64 - (k + 1)) (part at len w) ∙ ap (moreOf (64 - (k + 1)) (part at len w)) (told (g .ready) d e)
+      g .same-as-whole ∙ ap (λ j. settle j (part at len w)) f ∙ settle-more (64 - (k + 1)) (part at len w) ∙ ap (moreOf (64 - (k + 1)) (part at len w)) (told (g .ready) d e)
 
   answered-by : {x : Progress} → shown x w′ ≡ settle 64 (part from n w₀) → Placed x → Staged w₀ w′ (Text from n) x convertFractions
   unfolding convertFractions
@@ -217,7 +217,7 @@ module _ {w₀ w w′ : List ℕ} {from n at len k : ℕ} {r : Round} (g : Going
         let long = d .wrote .long in let wide = g .ready .long in
         let t : part (8192 - at) count w′ ≡ d .out = ap (λ j. part (8192 - at) j w′) c ∙ wrote-text (d .wrote) (placed-regions (g .ready) refl .region) (omega arith) in
         record {
-          so-far = rounds-more e ∙ rw l (ap (settle (64 - (k + 1))) (sym t));
+          same-as-whole = rounds-more e ∙ rw l (ap (settle (64 - (k + 1))) (sym t));
           ready = record { long = omega arith; placed = (⊎-elim (λ z. inr (omega arith)) (λ z. inl (omega arith)) (placed-text (g .ready) refl .0), h) };
           long = d .wrote .long ∙ g .long;
           beyond = beyond-kept (g .ready) d ∙ g .beyond;
@@ -230,7 +230,7 @@ reverse-whole p o [] e = refl
 reverse-whole p o (x ∷ s) e = let here = find-nowhere (bytes "/") x s e in rw (here .0, fractionsFrom) (reverse-whole (x ∷ p) (x ∷ o) s (here .1))
 
 slashless : (s : List ℕ) → find (bytes "/") s ≡ none → convertFractions s ≡ passed s
-unfolding convertFractions convertRegularFractions next
+unfolding convertFractions convertRegularFractions afterRound
 slashless s e =
     settle-more 63 s ∙ ap (λ r. moreOf 63 s (nextOf s r)) (reverse-whole [] [] s e)
     ∙ ap (λ b. moreOf 63 s (cond b unchanged (changed s))) (same-refl s)

@@ -25,10 +25,10 @@ use Rattle.spec.specs.Fractions.{
   slash,
 }
 use Rattle.spec.specs.Laws.Symbols.{reverse-drop}
-use Rattle.symbols.specs.Parts.{part, drop-take}
-use Rattle.symbols.specs.Trim.{spanned}
-use Rattle.symbols.specs.Places.{before, length-before, Ahead, Behind}
-use Rattle.operands.specs.Places.{until-ahead}
+use Rattle.text_symbols.specs.Parts.{part, drop-take}
+use Rattle.text_symbols.specs.Trim.{spanned}
+use Rattle.text_symbols.specs.Places.{before, length-before, AheadTo, BackTo}
+use Rattle.fraction_operands.specs.Places.{until-ahead}
 use Rattle.fractions.specs.declared.Operands.{Operands}
 use Rattle.fractions.specs.declared.Slash.{Slash}
 use Rattle.fractions.specs.declared.Slash.the-variants.{Converts, Stays, Barred}
@@ -38,11 +38,11 @@ abbrev pub fraction : Operands → List ℕ → List ℕ
 fraction f s = frac (stripOuterParens (spanned (f .num) s)) (stripOuterParens (spanned (f .den) s))
 
 -- with o written so far
-abbrev pub converted : List ℕ → ℕ → List ℕ → Operands → Step
-converted s i o f = record { skip = f .den .end - (i + 1); written = reverseAux (fraction f s) (drop (i - f .num .start) o) }
+abbrev pub fractionStep : List ℕ → ℕ → List ℕ → Operands → Step
+fractionStep s i o f = record { skip = f .den .end - (i + 1); written = reverseAux (fraction f s) (drop (i - f .num .start) o) }
 
 abbrev pub decided : List ℕ → ℕ → List ℕ → Slash → Option Step
-decided s i o (Converts f) = some (converted s i o f)
+decided s i o (Converts f) = some (fractionStep s i o f)
 decided s i o Stays = some (copied (code "/") o)
 decided s i o Barred = none
 
@@ -53,14 +53,14 @@ pub record Ordered (n i : ℕ) (f : Operands) : Type 0 where
   pub denominator : f .den .start ≤ f .den .end
   pub within : f .den .end ≤ n
 
-abbrev pub Fits : ℕ → ℕ → Slash → Type 0
-Fits n i (Converts f) = Ordered n i f
-Fits n i Stays = Unit {0}
-Fits n i Barred = Unit {0}
+abbrev pub SlashFits : ℕ → ℕ → Slash → Type 0
+SlashFits n i (Converts f) = Ordered n i f
+SlashFits n i Stays = Unit {0}
+SlashFits n i Barred = Unit {0}
 
 pub record Slashed (s : List ℕ) (i : ℕ) (r : Slash) : Type 0 where
   pub decides : (o : List ℕ) → slash (before s i) o (drop (i + 1) s) ≡ decided s i o r
-  pub fits : Fits (length s) i r
+  pub fits : SlashFits (length s) i r
 
 -- ---- the symbols between two places, seen from behind
 until-behind : (s : List ℕ) (b e : ℕ) → b ≤ e → e ≤ length s → reverse (until (before s e) (before s b)) ≡ part b (e - b) s
@@ -81,7 +81,7 @@ module _ (s : List ℕ) (i : ℕ) where
   unfolding slash
   slash-inside e = record { decides = λ o. rw (e, slash); fits = tt }
 
-  module _ (outside : isInsideSubscriptContext 0 (before s i) ≡ false) {b : ℕ} (over : Behind s i b (trimStart (before s i))) where
+  module _ (outside : isInsideSubscriptContext 0 (before s i) ≡ false) {b : ℕ} (over : BackTo s i b (trimStart (before s i))) where
     searched : (o : List ℕ) {q : Option (List ℕ)} → findFractionPartBefore (before s b) ≡ q → slash (before s i) o (drop (i + 1) s) ≡ withNumerator (before s i) o (drop (i + 1) s) q
     unfolding slash
     searched o e = rw (outside, slash) (ap (withNumerator (before s i) o (drop (i + 1) s)) (ap findFractionPartBefore (sym (over .left)) ∙ e))
@@ -90,7 +90,7 @@ module _ (s : List ℕ) (i : ℕ) where
     slash-bare e = record { decides = λ o. searched o e; fits = tt }
 
     module _
-        {a q : ℕ} (under : Ahead s (i + 1) a (trimStart (drop (i + 1) s))) (start : q ≤ b)
+        {a q : ℕ} (under : AheadTo s (i + 1) a (trimStart (drop (i + 1) s))) (start : q ≤ b)
         (num : findFractionPartBefore (before s b) ≡ some (before s q))
       where
         numerated : (o : List ℕ) {t : Bool} → barred (drop a s) ≡ t
@@ -136,4 +136,4 @@ module _ (s : List ℕ) (i : ℕ) where
                   drops
 
 pub slashed-ordered : {s : List ℕ} {i : ℕ} {r : Slash} {f : Operands} → Slashed s i r → r ≡ Converts f → Ordered (length s) i f
-slashed-ordered {s} {i} d e = subst (Fits (length s) i) e (d .fits)
+slashed-ordered {s} {i} d e = subst (SlashFits (length s) i) e (d .fits)

@@ -13,10 +13,10 @@ use borrow.Author.Tests.{eq-eqb, ne-eqb}
 use lib.ListN.{length, getD, take, drop}
 use Rattle.spec.specs.Fractions.{Step, slash, fractionsFrom, convertRegularFractions}
 use Rattle.spec.specs.Laws.Symbols.{drop-step, drop-reverse}
-use Rattle.symbols.specs.Parts.{part, whole-part}
+use Rattle.text_symbols.specs.Parts.{part, whole-part}
 use Rattle.text.specs.Writer.{Appended, Regions}
 use Rattle.text.specs.Written.{Wrote, Writing, writing-none, writing-more, writing-less, wrote-less, wrote-apart, wrote-read}
-use Rattle.symbols.specs.Places.{before, before-next, drop-none}
+use Rattle.text_symbols.specs.Places.{before, before-next, drop-none}
 use Rattle.fractions.specs.declared.Operands.{Operands}
 use Rattle.fractions.specs.declared.Slash.{Slash}
 use Rattle.fractions.specs.declared.Slash.the-variants as Slash
@@ -25,18 +25,18 @@ use Rattle.fractions.specs.declared.Outcome.the-variants as Outcome
 use Rattle.fractions.specs.Slash.{fraction, decided, Ordered, Slashed}
 
 -- ---- what a round answers
-abbrev pub size : Outcome → ℕ
-size (Outcome.Done n) = n
-size Outcome.Barred = 0
+abbrev pub outcomeLength : Outcome → ℕ
+outcomeLength (Outcome.Done n) = n
+outcomeLength Outcome.Barred = 0
 
-abbrev pub finished : Outcome → List ℕ → Option (List ℕ)
-finished (Outcome.Done n) t = some t
-finished Outcome.Barred t = none
+abbrev pub outcomeText : Outcome → List ℕ → Option (List ℕ)
+outcomeText (Outcome.Done n) t = some t
+outcomeText Outcome.Barred t = none
 
 pub record Rounded (s w₀ w : List ℕ) (to : ℕ) (r : Outcome) : Type 0 where
   pub out : List ℕ
-  pub decides : finished r out ≡ convertRegularFractions s
-  pub counted : size r ≡ length out
+  pub decides : outcomeText r out ≡ convertRegularFractions s
+  pub counted : outcomeLength r ≡ length out
   pub wrote : Wrote w₀ w to 8192 out
 
 -- ---- the round from place i on, with `out` written so far
@@ -55,9 +55,9 @@ skipped (suc k) s o i h =
     ∙ ap (λ j. fractionsFrom 0 (before s j) o (drop j s)) e
 
 module _ (s : List ℕ) (i : ℕ) (inside : i < length s) where
-  pub round-plain : (getD s i 0 ≡ code "/" → ⊥) → (out : List ℕ) → roundFrom s i out ≡ roundFrom s (i + 1) (out ++ getD s i 0 ∷ [])
+  pub round-copied : (getD s i 0 ≡ code "/" → ⊥) → (out : List ℕ) → roundFrom s i out ≡ roundFrom s (i + 1) (out ++ getD s i 0 ∷ [])
   unfolding fractionsFrom
-  round-plain h out =
+  round-copied h out =
       let e = ne-eqb (getD s i 0) 47 h in
       ap (fractionsFrom 0 (before s i) (reverse out)) (drop-step s i inside) ∙ rw (e, fractionsFrom)
       (ap₂ (λ p o. fractionsFrom 0 p o (drop (i + 1) s)) (sym (before-next s i inside)) (sym (reverse-append out (getD s i 0 ∷ []))))
@@ -111,13 +111,13 @@ module _ {s w₀ w : List ℕ} {to count i : ℕ} (t : Converting s w₀ w to co
       let out = t .writing .out in
       record {
         out = out;
-        decides = sym (sym (t .writing .so-far) ∙ ap (fractionsFrom 0 (before s i) (reverse out)) (drop-none s i h) ∙ ap some (reverse-reverse out));
+        decides = sym (sym (t .writing .same-as-whole) ∙ ap (fractionsFrom 0 (before s i) (reverse out)) (drop-none s i h) ∙ ap some (reverse-reverse out));
         counted = t .writing .counted;
         wrote = t .writing .wrote;
       }
 
   pub converting-refused : ((out : List ℕ) → roundFrom s i out ≡ none) → Rounded s w₀ w to Outcome.Barred
-  converting-refused e = record { out = []; decides = sym (e (t .writing .out)) ∙ t .writing .so-far; counted = refl; wrote = wrote-less 0 (t .writing .wrote) }
+  converting-refused e = record { out = []; decides = sym (e (t .writing .out)) ∙ t .writing .same-as-whole; counted = refl; wrote = wrote-less 0 (t .writing .wrote) }
 
   module _ {w′ : List ℕ} {count′ : ℕ} (fits : to + 8192 ≤ length w₀) where
     pub converting-kept :

@@ -7,11 +7,11 @@ use native.Mathlib.Omega.{arith}
 use lib.ListN.{length, drop, length-take, length-append}
 use Rattle.spec.specs.Symbols.{bytes}
 use Rattle.spec.specs.Fractions.{frac, stripOuterParens}
-use Rattle.symbols.specs.Parts.{part, sub-part}
-use Rattle.symbols.specs.Trim.{Narrowed, spanned}
+use Rattle.text_symbols.specs.Parts.{part, sub-part}
+use Rattle.text_symbols.specs.Trim.{Narrowed, spanned}
 use Rattle.text.specs.Writer.{Room, Appended, Apart, Regions, apart-part, appended-more, appended-long, appended-part}
-use Rattle.symbols.specs.declared.Span.{Span}
-use Rattle.operands.specs.Strip.{whole, strip-length}
+use Rattle.text_symbols.specs.declared.Span.{Span}
+use Rattle.fraction_operands.specs.Strip.{wholeSpan, strip-length}
 use Rattle.fractions.specs.declared.Operands.{Operands}
 use Rattle.fractions.specs.Slash.{Ordered, fraction}
 
@@ -23,7 +23,7 @@ pub record Source (w : List ℕ) (p : Span) (to : ℕ) : Type 0 where
 
 -- ---- an operand
 -- where it stands in the buffer
-module _ (w : List ℕ) (p : Span) {r : Span} (operand : Narrowed (spanned p w) (whole (spanned p w)) r (stripOuterParens (spanned p w))) where
+module _ (w : List ℕ) (p : Span) {r : Span} (operand : Narrowed (spanned p w) (wholeSpan (spanned p w)) r (stripOuterParens (spanned p w))) where
   pub operand-fits : r .end ≤ p .end - p .start
   operand-fits = let t = operand .to in let n = length-take (p .end - p .start) (drop (p .start) w) in omega arith
 

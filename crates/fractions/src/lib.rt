@@ -7,7 +7,7 @@ mod writing;
 pub use regular::convert_regular_fractions;
 pub use settle::convert_fractions;
 pub use slashes::slash_at;
-use symbols::Span;
+use text_symbols::Span;
 
 // The numerator and the denominator of a slash.
 pub struct Operands {

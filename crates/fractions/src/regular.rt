@@ -6,7 +6,7 @@ use super::slashes::slash_at;
 use super::writing::put_converted;
 use text::CAP;
 ghost use Prim.Native.Nat.{_≤_};
-ghost use Rattle.symbols.specs.Parts.{part};
+ghost use Rattle.text_symbols.specs.Parts.{part};
 ghost use Rattle.text.specs.Writer.{Regions};
 ghost use Rattle.fractions.specs.Turn.{Rounded};
 

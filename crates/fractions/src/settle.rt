@@ -2,10 +2,10 @@
 use super::Outcome;
 use super::Round;
 use super::regular::convert_regular_fractions;
-use search::Found;
 use text::CAP;
 use text::Progress;
 use text::Refusal;
+use text_search::Found;
 ghost use Rattle.spec.specs.Fractions.{convertFractions, settle as settled};
 ghost use Rattle.text.specs.Stage.{Ready, Staged};
 ghost use Rattle.text.specs.declared.Progress.the-variants.{Text};
@@ -28,7 +28,7 @@ fn next_round(work: &mut [u8], from: usize, n: usize) -> Round
     }
     let end = from + n;
     let to_end = to + n;
-    if search::is_same(&work[to..to_end], &work[from..end]) {
+    if text_search::is_same(&work[to..to_end], &work[from..end]) {
         return Round::Unchanged;
     }
     Round::Changed(count)
@@ -89,7 +89,7 @@ pub fn convert_fractions(work: &mut [u8], progress: Progress) -> Progress
         return progress;
     };
     let end = from + n;
-    let Found::At(k) = search::find(&work[from..end], b"/") else {
+    let Found::At(k) = text_search::find(&work[from..end], b"/") else {
         return progress;
     };
     settle(work, from, n)

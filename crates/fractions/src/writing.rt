@@ -1,11 +1,11 @@
 // Writing a fraction: its operands are copied from the text, without their parentheses.
 use super::Operands;
-use symbols::Span;
 use text::CAP;
+use text_symbols::Span;
 ghost use Prim.Native.Nat.{_+_, _-_, _≤_};
 ghost use Rattle.spec.specs.Fractions.{stripOuterParens};
-ghost use Rattle.symbols.specs.Parts.{part};
-ghost use Rattle.symbols.specs.Trim.{spanned};
+ghost use Rattle.text_symbols.specs.Parts.{part};
+ghost use Rattle.text_symbols.specs.Trim.{spanned};
 ghost use Rattle.text.specs.Writer.{Room, Appended, Regions};
 ghost use Rattle.fractions.specs.Slash.{Ordered, fraction};
 ghost use Rattle.fractions.specs.Writing.{Source};
@@ -18,7 +18,7 @@ fn put_operand(work: &mut [u8], span: Span, to: usize, count: usize) -> usize
 {
     let from = span.start;
     let end = span.end;
-    let operand = operands::operand_span(&work[from..end]);
+    let operand = fraction_operands::operand_span(&work[from..end]);
     text::copy(
         work,
         from + operand.start,

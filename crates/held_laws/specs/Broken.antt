@@ -16,7 +16,7 @@ use Rattle.spec.specs.Symbols.{starts, digit, any, textMark}
 use Rattle.spec.specs.Held.{placeholder}
 use Rattle.spec.specs.Laws.Symbols.{starts-split}
 use Rattle.held_laws.specs.Decimal.{decimal, Digits, decimal-digits}
-use Rattle.held_laws.specs.Replacing.{Unmarked, digit-unmarked, digits-unmarked, placeholder-long, put, put-not, put-met}
+use Rattle.held_laws.specs.Replacing.{TextMarkFree, digit-unmarked, digits-unmarked, placeholder-long, putBlock, put-not, put-met}
 
 -- a mark is left: number 6
 abbrev pub marked : List ℕ → Bool
@@ -53,8 +53,8 @@ odd-append (b ∷ x) s = go (eqb b textMark) (odd s) (odd x) (odd-append x s)
     go true false false e = ap not e
     go false o p e = e
 
-pub unmarked-even : (x : List ℕ) → Unmarked x → odd x ≡ false
-unfolding odd Unmarked
+pub unmarked-even : (x : List ℕ) → TextMarkFree x → odd x ≡ false
+unfolding odd TextMarkFree
 unmarked-even [] h = refl
 unmarked-even (b ∷ x) h = rw (h .0) (unmarked-even x (h .1))
 
@@ -102,7 +102,7 @@ module _ (i : ℕ) (fresh : List ℕ) (even : odd fresh ≡ false) where
       go false false false e = more false e
 
   -- n bounds the text's length
-  broken-within : (n : ℕ) (s : List ℕ) → length s ≤ n → (o : Bool) → broken o s ≡ true → broken o (put i fresh s) ≡ true
+  broken-within : (n : ℕ) (s : List ℕ) → length s ≤ n → (o : Bool) → broken o s ≡ true → broken o (putBlock i fresh s) ≡ true
   unfolding broken
   broken-within zero [] h o e = absurd (false≢true e)
   broken-within (suc n) [] h o e = absurd (false≢true e)
@@ -110,8 +110,8 @@ module _ (i : ℕ) (fresh : List ℕ) (even : odd fresh ≡ false) where
   broken-within (suc n) (b ∷ s) h o e = go (starts (placeholder i) (b ∷ s)) refl (broken-within n)
     where
       go : (t : Bool) → starts (placeholder i) (b ∷ s) ≡ t
-          → ((u : List ℕ) → length u ≤ n → (o : Bool) → broken o u ≡ true → broken o (put i fresh u) ≡ true)
-          → broken o (put i fresh (b ∷ s)) ≡ true
+          → ((u : List ℕ) → length u ≤ n → (o : Bool) → broken o u ≡ true → broken o (putBlock i fresh u) ≡ true)
+          → broken o (putBlock i fresh (b ∷ s)) ≡ true
       go true met more =
           let u = drop (length (placeholder i)) (b ∷ s) in
           let split = starts-split (placeholder i) (b ∷ s) met in
@@ -119,12 +119,12 @@ module _ (i : ℕ) (fresh : List ℕ) (even : odd fresh ≡ false) where
           let long = ap length split in
           let some = placeholder-long i in
           let e′ = more u (omega arith) o (sym (broken-placeholder i u o) ∙ ap (broken o) (sym split) ∙ e) in
-          ap (λ l. broken o (put i fresh l)) split
+          ap (λ l. broken o (putBlock i fresh l)) split
           ∙ ap (broken o) (put-met i fresh u)
-          ∙ broken-behind fresh (put i fresh u) o (rw even e′)
-      go false other more = ap (broken o) (put-not i fresh b s other) ∙ copied b s (put i fresh s) (more s (omega arith)) o e
+          ∙ broken-behind fresh (putBlock i fresh u) o (rw even e′)
+      go false other more = ap (broken o) (put-not i fresh b s other) ∙ copied b s (putBlock i fresh s) (more s (omega arith)) o e
 
-  pub broken-put : (s : List ℕ) (o : Bool) → broken o s ≡ true → broken o (put i fresh s) ≡ true
+  pub broken-put : (s : List ℕ) (o : Bool) → broken o s ≡ true → broken o (putBlock i fresh s) ≡ true
   broken-put s = broken-within (length s) s (omega arith)
 
 -- a broken text has a mark

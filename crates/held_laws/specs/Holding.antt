@@ -11,9 +11,9 @@ use borrow.Author.Tests.{eq-eqb, eqb-true}
 use Rattle.spec.specs.Symbols.{bytes, starts, textMark, romanMark}
 use Rattle.spec.specs.Held.{Taken, takeOut, holdTexts, holdBoth}
 use Rattle.spec.specs.Laws.Booleans.{or-neither, and-parts}
-use Rattle.held_laws.specs.Marks.{hasMark, count, joined, has-mark-append}
+use Rattle.held_laws.specs.Marks.{hasMark, count, concat, has-mark-append}
 use Rattle.held_laws.specs.Remains.{backslash}
-use Rattle.held_laws.specs.WellMade.{Every, Plain, Enclosing, WellMade, count-append, unmarked-count, count-unmarked}
+use Rattle.held_laws.specs.WellMade.{Every, MarkFreeBlock, Enclosing, WellMade, count-append, unmarked-count, count-unmarked}
 use Rattle.held_laws.specs.TakeOut.{Turns, ended, unclosed, passing, holding, turns}
 
 -- a symbol more on both sides
@@ -28,44 +28,44 @@ more-most false a c e = e
 module _ (name : List ℕ) (mark : ℕ) where
   -- another symbol is as often in what is left and in the blocks, taken together, as in the text
   pub taken-other :
-      (c : ℕ) → eqb mark c ≡ false → {s : List ℕ} {t : Taken} → Turns name mark s t → count c (t .left) + count c (joined (t .blocks)) ≡ count c s
-  unfolding count joined
+      (c : ℕ) → eqb mark c ≡ false → {s : List ℕ} {t : Taken} → Turns name mark s t → count c (t .left) + count c (concat (t .blocks)) ≡ count c s
+  unfolding count concat
   taken-other c other ended = refl
   taken-other c other (unclosed s e f) = omega arith
   taken-other c other (passing x s t e next) = more-left (eqb x c) _ _ _ (taken-other c other next)
   taken-other c other (holding x block behind t e f next) =
       let more = taken-other c other next in
       let l = count-append c (x ∷ block) behind in
-      let m = count-append c (x ∷ block) (joined (t .blocks)) in
+      let m = count-append c (x ∷ block) (concat (t .blocks)) in
       rw other (omega arith)
 
   -- the mark stands in what is left once more for each block
-  pub taken-own : {s : List ℕ} {t : Taken} → Turns name mark s t → count mark (t .left) + count mark (joined (t .blocks)) ≡ count mark s + length (t .blocks)
-  unfolding count joined
+  pub taken-own : {s : List ℕ} {t : Taken} → Turns name mark s t → count mark (t .left) + count mark (concat (t .blocks)) ≡ count mark s + length (t .blocks)
+  unfolding count concat
   taken-own ended = refl
   taken-own (unclosed s e f) = refl
   taken-own (passing x s t e next) = go (eqb x mark) (taken-own next)
     where
-      go : (u : Bool) → count mark (t .left) + count mark (joined (t .blocks)) ≡ count mark s + length (t .blocks)
-          → cond u (suc (count mark (t .left))) (count mark (t .left)) + count mark (joined (t .blocks)) ≡ cond u (suc (count mark s)) (count mark s) + length (t .blocks)
+      go : (u : Bool) → count mark (t .left) + count mark (concat (t .blocks)) ≡ count mark s + length (t .blocks)
+          → cond u (suc (count mark (t .left))) (count mark (t .left)) + count mark (concat (t .blocks)) ≡ cond u (suc (count mark s)) (count mark s) + length (t .blocks)
       go true e = omega arith
       go false e = e
   taken-own (holding x block behind t e f next) =
       let more = taken-own next in
       let l = count-append mark (x ∷ block) behind in
-      let m = count-append mark (x ∷ block) (joined (t .blocks)) in
+      let m = count-append mark (x ∷ block) (concat (t .blocks)) in
       rw (eq-eqb mark mark refl) (omega arith)
 
   -- blocks hold what the text holds
-  pub taken-within : (c : ℕ) → {s : List ℕ} {t : Taken} → Turns name mark s t → count c (joined (t .blocks)) ≤ count c s
-  unfolding count joined
-  taken-within c ended = omega arith
-  taken-within c (unclosed s e f) = omega arith
-  taken-within c (passing x s t e next) = more-most (eqb x c) _ _ (taken-within c next)
-  taken-within c (holding x block behind t e f next) =
-      let more = taken-within c next in
+  pub blocks-count-within : (c : ℕ) → {s : List ℕ} {t : Taken} → Turns name mark s t → count c (concat (t .blocks)) ≤ count c s
+  unfolding count concat
+  blocks-count-within c ended = omega arith
+  blocks-count-within c (unclosed s e f) = omega arith
+  blocks-count-within c (passing x s t e next) = more-most (eqb x c) _ _ (blocks-count-within c next)
+  blocks-count-within c (holding x block behind t e f next) =
+      let more = blocks-count-within c next in
       let l = count-append c (x ∷ block) behind in
-      let m = count-append c (x ∷ block) (joined (t .blocks)) in
+      let m = count-append c (x ∷ block) (concat (t .blocks)) in
       omega arith
 
 -- ---- blocks
@@ -80,18 +80,18 @@ taken-begins name mark (passing x s t e next) = taken-begins name mark next
 taken-begins name mark (holding x block behind t e f next) =
     (ap (λ y. y ∷ block) (eqb-true x backslash (and-parts (starts name (block ++ behind)) (eqb x backslash) e .1)), taken-begins name mark next)
 
-every-plain : (bs : List (List ℕ)) → Every Begins bs → hasMark (joined bs) ≡ false → Every Plain bs
-unfolding Every joined
+every-plain : (bs : List (List ℕ)) → Every Begins bs → hasMark (concat bs) ≡ false → Every MarkFreeBlock bs
+unfolding Every concat
 every-plain [] h e = tt
 every-plain (b ∷ bs) h e =
-    let both = or-neither (hasMark b) (hasMark (joined bs)) (sym (has-mark-append b (joined bs)) ∙ e) in
-    (record { begins = h .0; free = both .0 }, every-plain bs (h .1) (both .1))
+    let both = or-neither (hasMark b) (hasMark (concat bs)) (sym (has-mark-append b (concat bs)) ∙ e) in
+    (record { begins = h .0; mark-free = both .0 }, every-plain bs (h .1) (both .1))
 
-every-enclosing : (bs : List (List ℕ)) → Every Begins bs → count romanMark (joined bs) ≡ 0 → Every Enclosing bs
-unfolding Every joined
+every-enclosing : (bs : List (List ℕ)) → Every Begins bs → count romanMark (concat bs) ≡ 0 → Every Enclosing bs
+unfolding Every concat
 every-enclosing [] h e = tt
 every-enclosing (b ∷ bs) h e =
-    let l = count-append romanMark b (joined bs) in
+    let l = count-append romanMark b (concat bs) in
     (record { begins = h .0; no-roman = omega arith }, every-enclosing bs (h .1) (omega arith))
 
 -- ---- the two hold-outs
@@ -112,23 +112,23 @@ module _ (s : List ℕ) (free : hasMark s ≡ false) where
   text-left =
       let none = unmarked-count s free .0 in
       let own = taken-own (bytes "\\text{") textMark (textTurns s) in
-      let most = taken-within (bytes "\\text{") textMark textMark (textTurns s) in
+      let most = blocks-count-within (bytes "\\text{") textMark textMark (textTurns s) in
       omega arith
 
   pub roman-left : count romanMark (textsTaken s .left) ≡ 0
   roman-left = let none = unmarked-count s free .1 in let other = taken-other (bytes "\\text{") textMark romanMark refl (textTurns s) in omega arith
 
-  texts-plain : Every Plain (textsTaken s .blocks)
+  texts-plain : Every MarkFreeBlock (textsTaken s .blocks)
   texts-plain =
       let none = unmarked-count s free in
       let no-text = none .0 in
       let no-roman = none .1 in
-      let text = taken-within (bytes "\\text{") textMark textMark (textTurns s) in
-      let roman = taken-within (bytes "\\text{") textMark romanMark (textTurns s) in
-      every-plain (textsTaken s .blocks) (taken-begins (bytes "text{") textMark (textTurns s)) (count-unmarked (joined (textsTaken s .blocks)) (omega arith) (omega arith))
+      let text = blocks-count-within (bytes "\\text{") textMark textMark (textTurns s) in
+      let roman = blocks-count-within (bytes "\\text{") textMark romanMark (textTurns s) in
+      every-plain (textsTaken s .blocks) (taken-begins (bytes "text{") textMark (textTurns s)) (count-unmarked (concat (textsTaken s .blocks)) (omega arith) (omega arith))
 
   pub hold-texts-made : WellMade (holdTexts s)
-  unfolding holdTexts Every joined count
+  unfolding holdTexts Every concat count
   hold-texts-made = let e = text-left in record { texts = texts-plain; romans = tt; text-marks = omega arith; roman-marks = roman-left }
 
   pub hold-both-made : WellMade (holdBoth s)
@@ -137,7 +137,7 @@ module _ (s : List ℕ) (free : hasMark s ≡ false) where
       let none = roman-left in
       let all = text-left in
       let own = taken-own (bytes "\\mathrm{") romanMark (romanTurns s) in
-      let most = taken-within (bytes "\\mathrm{") romanMark romanMark (romanTurns s) in
+      let most = blocks-count-within (bytes "\\mathrm{") romanMark romanMark (romanTurns s) in
       let other = taken-other (bytes "\\mathrm{") romanMark textMark refl (romanTurns s) in
       record {
         texts = texts-plain;

@@ -16,7 +16,7 @@ use Rattle.spec.specs.Symbols.{textMark, romanMark}
 use Rattle.spec.specs.Held.{Held, filled, inFull}
 use Rattle.spec.specs.Laws.Booleans.{or-neither}
 use Rattle.spec.specs.Laws.Held.{filled-none}
-use Rattle.held_laws.specs.Marks.{isMark, hasMark, count, first, rest, order, fill, blockAt, joined, not-text-mark, has-mark-append}
+use Rattle.held_laws.specs.Marks.{isMark, hasMark, count, first, restNumbers, order, fill, blockAt, concat, not-text-mark, has-mark-append}
 use Rattle.held_laws.specs.WellMade.{WellMade, count-append, block-append, block-front}
 use Rattle.held_laws.specs.Numbering.{not-both}
 
@@ -70,59 +70,59 @@ two-kinds block texts free (b ∷ s) a r h =
         → returned textMark block a (returned romanMark block r s) ≡ fill block (order a r s) s
         → (let ks = cond x (a ∷ order (suc a) r s) (cond y (r ∷ order a (suc r) s) (order a r s)) in
         returned textMark block a (cond y (block r ++ returned romanMark block (suc r) s) (b ∷ returned romanMark block r s))
-        ≡ cond (x || y) (block (first ks) ++ fill block (rest ks) s) (b ∷ fill block ks s))
+        ≡ cond (x || y) (block (first ks) ++ fill block (restNumbers ks) s) (b ∷ fill block ks s))
     go true p true q one two same = not-both b p q
     go true p false q one two same = rw p (ap (λ l. block a ++ l) one)
     go false p true q one two same = returned-over block a (block r) (returned romanMark block (suc r) s) (free r h) ∙ ap (λ l. block r ++ l) two
     go false p false q one two same = rw p (ap (λ l. b ∷ l) same)
 
-unmarked-at : (bs : List (List ℕ)) → hasMark (joined bs) ≡ false → (k : ℕ) → hasMark (blockAt bs k) ≡ false
-unfolding joined blockAt
+unmarked-at : (bs : List (List ℕ)) → hasMark (concat bs) ≡ false → (k : ℕ) → hasMark (blockAt bs k) ≡ false
+unfolding concat blockAt
 unmarked-at [] e k = refl
-unmarked-at (b ∷ bs) e zero = or-neither (hasMark b) (hasMark (joined bs)) (sym (has-mark-append b (joined bs)) ∙ e) .0
-unmarked-at (b ∷ bs) e (suc k) = unmarked-at bs (or-neither (hasMark b) (hasMark (joined bs)) (sym (has-mark-append b (joined bs)) ∙ e) .1) k
+unmarked-at (b ∷ bs) e zero = or-neither (hasMark b) (hasMark (concat bs)) (sym (has-mark-append b (concat bs)) ∙ e) .0
+unmarked-at (b ∷ bs) e (suc k) = unmarked-at bs (or-neither (hasMark b) (hasMark (concat bs)) (sym (has-mark-append b (concat bs)) ∙ e) .1) k
 
 -- ---- counts
 -- each mark gives way to a block
-filled-count : (c mark : ℕ) → (eqb mark c ≡ false) → (s : List ℕ) (bs : List (List ℕ)) → count mark s ≡ length bs → count c (filled mark bs s) ≡ count c s + count c (joined bs)
-unfolding filled count joined
+filled-count : (c mark : ℕ) → (eqb mark c ≡ false) → (s : List ℕ) (bs : List (List ℕ)) → count mark s ≡ length bs → count c (filled mark bs s) ≡ count c s + count c (concat bs)
+unfolding filled count concat
 filled-count c mark other [] [] h = refl
 filled-count c mark other [] (b ∷ bs) h = absurd (omega arith)
 filled-count c mark other (x ∷ s) [] h = sym (add-zero (count c (x ∷ s)))
 filled-count c mark other (x ∷ s) (b ∷ bs) h = go (eqb x mark) refl h (filled-count c mark other s bs) (filled-count c mark other s (b ∷ bs))
   where
     go : (t : Bool) → eqb x mark ≡ t → cond t (suc (count mark s)) (count mark s) ≡ suc (length bs)
-        → (count mark s ≡ length bs → count c (filled mark bs s) ≡ count c s + count c (joined bs))
-        → (count mark s ≡ suc (length bs) → count c (filled mark (b ∷ bs) s) ≡ count c s + count c (b ++ joined bs))
-        → count c (elim t as (λ _. List ℕ) [ true ↦ b ++ filled mark bs s | false ↦ x ∷ filled mark (b ∷ bs) s ]) ≡ cond (eqb x c) (suc (count c s)) (count c s) + count c (b ++ joined bs)
+        → (count mark s ≡ length bs → count c (filled mark bs s) ≡ count c s + count c (concat bs))
+        → (count mark s ≡ suc (length bs) → count c (filled mark (b ∷ bs) s) ≡ count c s + count c (b ++ concat bs))
+        → count c (elim t as (λ _. List ℕ) [ true ↦ b ++ filled mark bs s | false ↦ x ∷ filled mark (b ∷ bs) s ]) ≡ cond (eqb x c) (suc (count c s)) (count c s) + count c (b ++ concat bs)
     go true p h one more =
         let e : eqb x c ≡ false = ap (λ y. eqb y c) (eqb-true x mark p) ∙ other in
         let here = one (omega arith) in
         let x = count-append c b (filled mark bs s) in
-        let y = count-append c b (joined bs) in
+        let y = count-append c b (concat bs) in
         rw e (omega arith)
     go false p h one more = same (eqb x c) (more h)
       where
-        same : (u : Bool) → count c (filled mark (b ∷ bs) s) ≡ count c s + count c (b ++ joined bs)
-            → cond u (suc (count c (filled mark (b ∷ bs) s))) (count c (filled mark (b ∷ bs) s)) ≡ cond u (suc (count c s)) (count c s) + count c (b ++ joined bs)
+        same : (u : Bool) → count c (filled mark (b ∷ bs) s) ≡ count c s + count c (b ++ concat bs)
+            → cond u (suc (count c (filled mark (b ∷ bs) s))) (count c (filled mark (b ∷ bs) s)) ≡ cond u (suc (count c s)) (count c s) + count c (b ++ concat bs)
         same true e = omega arith
         same false e = e
 
-pub filled-length : (mark : ℕ) (s : List ℕ) (bs : List (List ℕ)) → count mark s ≡ length bs → length (filled mark bs s) + length bs ≡ length s + length (joined bs)
-unfolding filled count joined
+pub filled-length : (mark : ℕ) (s : List ℕ) (bs : List (List ℕ)) → count mark s ≡ length bs → length (filled mark bs s) + length bs ≡ length s + length (concat bs)
+unfolding filled count concat
 filled-length mark [] [] h = refl
 filled-length mark [] (b ∷ bs) h = absurd (omega arith)
 filled-length mark (x ∷ s) [] h = refl
 filled-length mark (x ∷ s) (b ∷ bs) h = go (eqb x mark) h (filled-length mark s bs) (filled-length mark s (b ∷ bs))
   where
     go : (t : Bool) → cond t (suc (count mark s)) (count mark s) ≡ suc (length bs)
-        → (count mark s ≡ length bs → length (filled mark bs s) + length bs ≡ length s + length (joined bs))
-        → (count mark s ≡ suc (length bs) → length (filled mark (b ∷ bs) s) + suc (length bs) ≡ length s + length (b ++ joined bs))
-        → length {A = ℕ} (elim t as (λ _. List ℕ) [ true ↦ b ++ filled mark bs s | false ↦ x ∷ filled mark (b ∷ bs) s ]) + suc (length bs) ≡ suc (length s) + length (b ++ joined bs)
+        → (count mark s ≡ length bs → length (filled mark bs s) + length bs ≡ length s + length (concat bs))
+        → (count mark s ≡ suc (length bs) → length (filled mark (b ∷ bs) s) + suc (length bs) ≡ length s + length (b ++ concat bs))
+        → length {A = ℕ} (elim t as (λ _. List ℕ) [ true ↦ b ++ filled mark bs s | false ↦ x ∷ filled mark (b ∷ bs) s ]) + suc (length bs) ≡ suc (length s) + length (b ++ concat bs)
     go true h one more =
         let e = one (omega arith) in
         let l = length-append b (filled mark bs s) in
-        let m = length-append b (joined bs) in
+        let m = length-append b (concat bs) in
         omega arith
     go false h one more = let e = more h in omega arith
 
@@ -132,7 +132,7 @@ module _ {h : Held} (made : WellMade h) where
   text-marks-left = filled-count textMark romanMark refl (h .text) (h .romans) (made .roman-marks) ∙ made .text-marks
 
   pub in-full-fill :
-      hasMark (joined (h .romans)) ≡ false
+      hasMark (concat (h .romans)) ≡ false
       → inFull h ≡ fill (blockAt (h .texts ++ h .romans)) (order 0 (length (h .texts)) (h .text)) (h .text)
   unfolding inFull
   in-full-fill none =
@@ -153,7 +153,7 @@ module _ {h : Held} (made : WellMade h) where
           ∙ unmarked-at (h .romans) none (k - length (h .texts))
 
   pub in-full-length :
-      length (inFull h) + (length (h .texts) + length (h .romans)) ≡ length (h .text) + (length (joined (h .texts)) + length (joined (h .romans)))
+      length (inFull h) + (length (h .texts) + length (h .romans)) ≡ length (h .text) + (length (concat (h .texts)) + length (concat (h .romans)))
   unfolding inFull
   in-full-length =
       let x = filled-length romanMark (h .text) (h .romans) (made .roman-marks) in

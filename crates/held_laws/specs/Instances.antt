@@ -62,14 +62,14 @@ letter-start : (w : List ℕ) → letter (head w) && all alnum w ≡ true → Na
 letter-start [] e = absurd (false≢true e)
 letter-start (x ∷ w) e =
     let both = and-parts (letter x) (all alnum (x ∷ w)) e in
-    record { start = x; more = w; split = refl; no-digit = letter-no-digit x (both .0); free = all-unmarked alnum refl refl (x ∷ w) (both .1) }
+    record { start = x; more = w; split = refl; no-digit = letter-no-digit x (both .0); mark-free = all-unmarked alnum refl refl (x ∷ w) (both .1) }
 
 -- a definition that number 3 lets pass
-pub record Sound (d : Definition) : Type 0 where
+pub record SoundDefinition (d : Definition) : Type 0 where
   pub name : faultyName (d .name) ≡ false
   pub latex : faultyLatex (d .latex) ≡ false
 
-pub defined-between : {d : Definition} → Sound d → Between (defined d)
+pub defined-between : {d : Definition} → SoundDefinition d → Between (defined d)
 defined-between {d} sound =
     let free = any-unmarked (λ x. foreign x || is "$" x) refl refl (d .latex) (sound .latex) in
     record {
@@ -101,7 +101,7 @@ words-fine = refl
 
 record Fine (r : Row) : Type 0 where
   pub a-name : Name (r .typst)
-  pub free : hasMark (r .latex) ≡ false
+  pub mark-free : hasMark (r .latex) ≡ false
 
 fine : (r : Row) → fineRow r ≡ true → Fine r
 fine r e = go (r .typst) refl e
@@ -112,8 +112,8 @@ fine r e = go (r .typst) refl e
         let one = and-parts (not (digit x)) (not (hasMark (x ∷ w)) && not (hasMark (r .latex))) e in
         let two = and-parts (not (hasMark (x ∷ w))) (not (hasMark (r .latex))) (one .1) in
         record {
-          a-name = record { start = x; more = w; split = p; no-digit = not-true (digit x) (one .0); free = ap hasMark p ∙ not-true (hasMark (x ∷ w)) (two .0) };
-          free = not-true (hasMark (r .latex)) (two .1);
+          a-name = record { start = x; more = w; split = p; no-digit = not-true (digit x) (one .0); mark-free = ap hasMark p ∙ not-true (hasMark (x ∷ w)) (two .0) };
+          mark-free = not-true (hasMark (r .latex)) (two .1);
         }
 
 either-free : (t : Bool) (x y : List ℕ) → hasMark x ≡ false → hasMark y ≡ false → hasMark (cond t x y) ≡ false
@@ -129,7 +129,7 @@ greek-between r e =
       fresh = λ before behind. cond (is "\\" before || (letter before || letter behind)) (r .typst) (r .latex);
       a-name = f .a-name;
       same = λ before s. rw and-true;
-      plain = λ before behind. either-free (is "\\" before || (letter before || letter behind)) (r .typst) (r .latex) (f .a-name .free) (f .free);
+      plain = λ before behind. either-free (is "\\" before || (letter before || letter behind)) (r .typst) (r .latex) (f .a-name .mark-free) (f .mark-free);
       allowed-before = λ behind. refl;
       allowed-behind = λ before. refl;
       fresh-before = λ behind. refl;
@@ -147,7 +147,7 @@ word-between r e = go (literal (r .typst)) (fine r e)
           fresh = λ before behind. r .latex;
           a-name = f .a-name;
           same = λ before s. rw and-true;
-          plain = λ before behind. f .free;
+          plain = λ before behind. f .mark-free;
           allowed-before = λ behind. refl;
           allowed-behind = λ before. refl;
           fresh-before = λ behind. refl;
@@ -160,7 +160,7 @@ word-between r e = go (literal (r .typst)) (fine r e)
           fresh = λ before behind. cond (is "\\" before || alnum behind) (r .typst) (r .latex);
           a-name = f .a-name;
           same = λ before s. refl;
-          plain = λ before behind. either-free (is "\\" before || alnum behind) (r .typst) (r .latex) (f .a-name .free) (f .free);
+          plain = λ before behind. either-free (is "\\" before || alnum behind) (r .typst) (r .latex) (f .a-name .mark-free) (f .mark-free);
           allowed-before = λ behind. refl;
           allowed-behind = λ before. refl;
           fresh-before = λ behind. refl;
@@ -170,7 +170,7 @@ word-between r e = go (literal (r .typst)) (fine r e)
 -- ---- a run of rules
 unfoldable pub EverySound : List Definition → Type 0
 EverySound [] = Unit {0}
-EverySound (d ∷ ds) = Sound d × EverySound ds
+EverySound (d ∷ ds) = SoundDefinition d × EverySound ds
 
 abbrev isPassed : {A : Type 0} → Result A → Bool
 isPassed (passed a) = true
@@ -204,7 +204,7 @@ sound-table (d ∷ ds) e =
     let two = or-neither (faultyLatex (d .latex)) (named-twice (d .name) ds || faulty ds) (one .1) in
     (record { name = one .0; latex = two .0 }, sound-table ds (or-neither (named-twice (d .name) ds) (faulty ds) (two .1) .1))
 
-sound-put : (d : Definition) (es fs : List Definition) → Sound d → EverySound (es ++ fs) → EverySound (es ++ d ∷ fs)
+sound-put : (d : Definition) (es fs : List Definition) → SoundDefinition d → EverySound (es ++ fs) → EverySound (es ++ d ∷ fs)
 unfolding EverySound
 sound-put d [] fs one all = (one, all)
 sound-put d (e ∷ es) fs one all = (all .0, sound-put d es fs one (all .1))

@@ -17,10 +17,10 @@ use Rattle.spec.specs.Laws.Symbols.{starts-long, starts-split}
 use Rattle.spec.specs.Closing.{findMatchingBrace}
 use Rattle.spec.specs.Held.{Taken, holdTexts, holdBoth, filled, inFull}
 use Rattle.spec.specs.Laws.Held.{filled-none}
-use Rattle.held_laws.specs.Marks.{hasMark, count, joined}
-use Rattle.held_laws.specs.WellMade.{count-append, joined-append, unmarked-count}
-use Rattle.held_laws.specs.TakeOut.{close-behind, Turns, ended, unclosed, passing, holding}
-use Rattle.held_laws.specs.Holding.{taken-other, taken-own, taken-within, textsTaken, textTurns, romansTaken, romanTurns, roman-left}
+use Rattle.held_laws.specs.Marks.{hasMark, count, concat}
+use Rattle.held_laws.specs.WellMade.{count-append, concat-append, unmarked-count}
+use Rattle.held_laws.specs.TakeOut.{close-suffix, Turns, ended, unclosed, passing, holding}
+use Rattle.held_laws.specs.Holding.{taken-other, taken-own, blocks-count-within, textsTaken, textTurns, romansTaken, romanTurns, roman-left}
 use Rattle.held_laws.specs.Numbering.{not-both}
 
 -- ---- counts and lengths
@@ -46,22 +46,22 @@ count-both (x ∷ s) = go (eqb x textMark) refl (eqb x romanMark) refl (count-bo
     go false p false q e = omega arith
 
 module _ (name : List ℕ) (mark : ℕ) where
-  pub taken-length : {s : List ℕ} {t : Taken} → Turns name mark s t → length (t .left) + length (joined (t .blocks)) ≡ length s + length (t .blocks)
-  unfolding joined
+  pub taken-length : {s : List ℕ} {t : Taken} → Turns name mark s t → length (t .left) + length (concat (t .blocks)) ≡ length s + length (t .blocks)
+  unfolding concat
   taken-length ended = refl
   taken-length (unclosed s e f) = refl
   taken-length (passing x s t e next) = let more = taken-length next in omega arith
   taken-length (holding x block behind t e f next) =
       let more = taken-length next in
       let l = length-append block behind in
-      let m = length-append block (joined (t .blocks)) in
+      let m = length-append block (concat (t .blocks)) in
       omega arith
 
   -- a block has its name and its closing brace
   block-long : (x : ℕ) (block behind : List ℕ) → starts name (x ∷ (block ++ behind)) ≡ true → findMatchingBrace (drop (length name) (x ∷ (block ++ behind))) ≡ some behind
       → length name ≤ length block
   block-long x block behind e f =
-      let b = close-behind (code "{") (code "}") (drop (length name) (x ∷ (block ++ behind))) 0 behind f in
+      let b = close-suffix (code "{") (code "}") (drop (length name) (x ∷ (block ++ behind))) 0 behind f in
       let l = ap length (b .split) in
       let d = length-drop (length name) (x ∷ (block ++ behind)) in
       let m = length-append block behind in
@@ -69,29 +69,29 @@ module _ (name : List ℕ) (mark : ℕ) where
       let n = starts-long name (x ∷ (block ++ behind)) e in
       omega arith
 
-  pub taken-long : 6 ≤ length name → {s : List ℕ} {t : Taken} → Turns name mark s t → 7 * length (t .blocks) ≤ length (joined (t .blocks))
-  unfolding joined
+  pub taken-long : 6 ≤ length name → {s : List ℕ} {t : Taken} → Turns name mark s t → 7 * length (t .blocks) ≤ length (concat (t .blocks))
+  unfolding concat
   taken-long six ended = omega arith
   taken-long six (unclosed s e f) = omega arith
   taken-long six (passing x s t e next) = taken-long six next
   taken-long six (holding x block behind t e f next) =
       let more = taken-long six next in
       let l = block-long x block behind e f in
-      let m = length-append block (joined (t .blocks)) in
+      let m = length-append block (concat (t .blocks)) in
       omega arith
 
   -- the name holds none of a block's marks
   taken-marks : (c : ℕ) → count c name ≡ 0 → 7 ≤ length name → {s : List ℕ} {t : Taken} → Turns name mark s t
-      → count c (joined (t .blocks)) + 7 * length (t .blocks) ≤ length (joined (t .blocks))
-  unfolding joined count
+      → count c (concat (t .blocks)) + 7 * length (t .blocks) ≤ length (concat (t .blocks))
+  unfolding concat count
   taken-marks c none seven ended = omega arith
   taken-marks c none seven (unclosed s e f) = omega arith
   taken-marks c none seven (passing x s t e next) = taken-marks c none seven next
   taken-marks c none seven (holding x block behind t e f next) =
       let more = taken-marks c none seven next in
       let l = block-long x block behind e f in
-      let m = length-append (x ∷ block) (joined (t .blocks)) in
-      let k = count-append c (x ∷ block) (joined (t .blocks)) in
+      let m = length-append (x ∷ block) (concat (t .blocks)) in
+      let k = count-append c (x ∷ block) (concat (t .blocks)) in
       let long = length name in
       let front : name ≡ take (length name) (x ∷ block) =
       sym (take-append-seam name (drop (length name) (x ∷ (block ++ behind))))
@@ -142,14 +142,14 @@ module _ (s : List ℕ) (free : hasMark s ≡ false) where
       ∙ taken-filled (bytes "\\text{") textMark (unmarked-count s free .0) (textTurns s)
 
   module _ (short : length s ≤ 8192) where
-    pub texts-few : (length (joined (holdTexts s .texts)) ≤ 8192) × (4 * length (holdTexts s .texts) ≤ 4680)
+    pub texts-few : (length (concat (holdTexts s .texts)) ≤ 8192) × (4 * length (holdTexts s .texts) ≤ 4680)
     unfolding holdTexts
     texts-few =
         let l = taken-length (bytes "\\text{") textMark (textTurns s) in
         let m = taken-long (bytes "\\text{") textMark (omega arith) (textTurns s) in
         let own = taken-own (bytes "\\text{") textMark (textTurns s) in
         let none = unmarked-count s free .0 in
-        let within = taken-within (bytes "\\text{") textMark textMark (textTurns s) in
+        let within = blocks-count-within (bytes "\\text{") textMark textMark (textTurns s) in
         let most = count-most textMark (textsTaken s .left) in
         (omega arith, omega arith)
 
@@ -170,22 +170,22 @@ module _ (s : List ℕ) (free : hasMark s ≡ false) where
         let m′ = taken-long (bytes "\\mathrm{") romanMark (omega arith) (romanTurns s) in
         omega arith
 
-    pub both-few : (length (joined (holdBoth s .texts ++ holdBoth s .romans)) ≤ 9362) × (4 * length (holdBoth s .texts ++ holdBoth s .romans) ≤ 4680)
+    pub both-few : (length (concat (holdBoth s .texts ++ holdBoth s .romans)) ≤ 9362) × (4 * length (holdBoth s .texts ++ holdBoth s .romans) ≤ 4680)
     unfolding holdBoth holdTexts count
     both-few =
         let l = taken-length (bytes "\\text{") textMark (textTurns s) in
         let m = taken-long (bytes "\\text{") textMark (omega arith) (textTurns s) in
         let own = taken-own (bytes "\\text{") textMark (textTurns s) in
         let none = unmarked-count s free .0 in
-        let within = taken-within (bytes "\\text{") textMark textMark (textTurns s) in
+        let within = blocks-count-within (bytes "\\text{") textMark textMark (textTurns s) in
         let l′ = taken-length (bytes "\\mathrm{") romanMark (romanTurns s) in
         let m′ = taken-marks (bytes "\\mathrm{") romanMark textMark refl (omega arith) (romanTurns s) in
         let own′ = taken-own (bytes "\\mathrm{") romanMark (romanTurns s) in
         let none′ = roman-left s free in
-        let within′ = taken-within (bytes "\\mathrm{") romanMark romanMark (romanTurns s) in
+        let within′ = blocks-count-within (bytes "\\mathrm{") romanMark romanMark (romanTurns s) in
         let other = taken-other (bytes "\\mathrm{") romanMark textMark refl (romanTurns s) in
         let kinds = count-both (romansTaken s .left) in
-        let j = ap length (joined-append (textsTaken s .blocks) (romansTaken s .blocks)) in
-        let j′ = length-append (joined (textsTaken s .blocks)) (joined (romansTaken s .blocks)) in
+        let j = ap length (concat-append (textsTaken s .blocks) (romansTaken s .blocks)) in
+        let j′ = length-append (concat (textsTaken s .blocks)) (concat (romansTaken s .blocks)) in
         let k = length-append (textsTaken s .blocks) (romansTaken s .blocks) in
         (omega arith, omega arith)

@@ -29,9 +29,9 @@ abbrev pub first : List ℕ → ℕ
 first [] = 0
 first (k ∷ ks) = k
 
-abbrev pub rest : List ℕ → List ℕ
-rest [] = []
-rest (k ∷ ks) = ks
+abbrev pub restNumbers : List ℕ → List ℕ
+restNumbers [] = []
+restNumbers (k ∷ ks) = ks
 
 unfoldable pub order : ℕ → ℕ → List ℕ → List ℕ
 order a r [] = []
@@ -39,17 +39,17 @@ order a r (b ∷ s) = cond (eqb b textMark) (a ∷ order (suc a) r s) (cond (eqb
 
 unfoldable pub fill : (ℕ → List ℕ) → List ℕ → List ℕ → List ℕ
 fill f ks [] = []
-fill f ks (b ∷ s) = cond (isMark b) (f (first ks) ++ fill f (rest ks) s) (b ∷ fill f ks s)
+fill f ks (b ∷ s) = cond (isMark b) (f (first ks) ++ fill f (restNumbers ks) s) (b ∷ fill f ks s)
 
 -- each mark has a number below n
 unfoldable pub numbersBelow : ℕ → List ℕ → List ℕ → Bool
 numbersBelow n ks [] = true
-numbersBelow n ks (b ∷ s) = cond (isMark b) (ltb (first ks) n && numbersBelow n (rest ks) s) (numbersBelow n ks s)
+numbersBelow n ks (b ∷ s) = cond (isMark b) (ltb (first ks) n && numbersBelow n (restNumbers ks) s) (numbersBelow n ks s)
 
 -- a mark has the number k
 unfoldable pub occurs : ℕ → List ℕ → List ℕ → Bool
 occurs k ks [] = false
-occurs k ks (b ∷ s) = cond (isMark b) (eqb (first ks) k || occurs k (rest ks) s) (occurs k ks s)
+occurs k ks (b ∷ s) = cond (isMark b) (eqb (first ks) k || occurs k (restNumbers ks) s) (occurs k ks s)
 
 -- from the list's length on a block is a lone backslash, so that every number has a block that begins with one
 unfoldable pub blockAt : List (List ℕ) → ℕ → List ℕ
@@ -57,9 +57,9 @@ blockAt [] k = bytes "\\"
 blockAt (b ∷ bs) zero = b
 blockAt (b ∷ bs) (suc k) = blockAt bs k
 
-unfoldable pub joined : List (List ℕ) → List ℕ
-joined [] = []
-joined (b ∷ bs) = b ++ joined bs
+unfoldable pub concat : List (List ℕ) → List ℕ
+concat [] = []
+concat (b ∷ bs) = b ++ concat bs
 
 -- ---- tests
 pub not-text-mark : (b : ℕ) → isMark b ≡ false → eqb b textMark ≡ false

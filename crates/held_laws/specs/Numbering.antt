@@ -2,7 +2,7 @@
 --     numbers            the numbers of a text's marks
 --     numbered-fill      the Rust's text is the marked text with placeholders of these numbers
 --     numbers-plain      where no `\mathrm` block holds a mark, they are those of `order`
---     AllFair            stored blocks and the Rust's blocks, from number k on
+--     AllStoredAs        stored blocks and the Rust's blocks, from number k on
 use mathlib.Core.Path.{_≡_, refl, sym, ap, ap₂, _∙_, subst}
 use mathlib.Core.Bool.{Bool, true, false, cond, _&&_, _||_}
 use mathlib.Core.List.{List, [], _∷_, _++_}
@@ -15,9 +15,9 @@ use borrow.Author.Tests.{eqb-true, eqb-false, lt-ltb}
 use Rattle.spec.specs.Symbols.{textMark, romanMark}
 use Rattle.spec.specs.Held.{placeholder, marks, numbered, numberedRomans}
 use Rattle.spec.specs.Laws.Booleans.{or-neither, or-right}
-use Rattle.held_laws.specs.Marks.{isMark, hasMark, count, first, rest, order, fill, numbersBelow, occurs, blockAt, joined, has-mark-append, fill-unmarked}
-use Rattle.held_laws.specs.Stored.{Fair}
-use Rattle.held_laws.specs.WellMade.{Every, Plain, Enclosing, count-append, marks-count, unmarked-count}
+use Rattle.held_laws.specs.Marks.{isMark, hasMark, count, first, restNumbers, order, fill, numbersBelow, occurs, blockAt, concat, has-mark-append, fill-unmarked}
+use Rattle.held_laws.specs.Stored.{StoredAs}
+use Rattle.held_laws.specs.WellMade.{Every, MarkFreeBlock, Enclosing, count-append, marks-count, unmarked-count}
 
 unfoldable pub numbers : List (List ℕ) → ℕ → ℕ → List ℕ → List ℕ
 numbers romans t r [] = []
@@ -47,7 +47,7 @@ numbered-fill (x ∷ s) romans t r = go (eqb x textMark) (eqb x romanMark) roman
             | false ↦ x ∷ numbered romans t r s
           ]
         ]
-        ≡ cond (m || n) (placeholder (first ks) ++ fill placeholder (rest ks) s) (x ∷ fill placeholder ks s))
+        ≡ cond (m || n) (placeholder (first ks) ++ fill placeholder (restNumbers ks) s) (x ∷ fill placeholder ks s))
     go true n romans more = ap (λ l. placeholder t ++ l) (more romans (suc t) r)
     go false true [] more = ap (λ l. placeholder r ++ l) (more [] t (suc r))
     go false true (b ∷ bs) more = ap (λ l. placeholder r ++ l) (more bs (t + marks b) (suc r))
@@ -55,24 +55,24 @@ numbered-fill (x ∷ s) romans t r = go (eqb x textMark) (eqb x romanMark) roman
 
 -- ---- they are below n
 pub numbers-below :
-    (n : ℕ) (s : List ℕ) (romans : List (List ℕ)) (t r : ℕ) → t + count textMark s + count textMark (joined romans) ≤ n → r + count romanMark s ≤ n
+    (n : ℕ) (s : List ℕ) (romans : List (List ℕ)) (t r : ℕ) → t + count textMark s + count textMark (concat romans) ≤ n → r + count romanMark s ≤ n
     → numbersBelow n (numbers romans t r s) s ≡ true
-unfolding numbers numbersBelow count joined
+unfolding numbers numbersBelow count concat
 numbers-below n [] romans t r h g = refl
 numbers-below n (x ∷ s) romans t r h g = go (eqb x textMark) refl (eqb x romanMark) refl romans h g (numbers-below n s)
   where
     go : (m : Bool) → eqb x textMark ≡ m → (o : Bool) → eqb x romanMark ≡ o → (romans : List (List ℕ))
-        → t + cond m (suc (count textMark s)) (count textMark s) + count textMark (joined romans) ≤ n → r + cond o (suc (count romanMark s)) (count romanMark s) ≤ n
-        → ((romans : List (List ℕ)) (t r : ℕ) → t + count textMark s + count textMark (joined romans) ≤ n → r + count romanMark s ≤ n → numbersBelow n (numbers romans t r s) s ≡ true)
+        → t + cond m (suc (count textMark s)) (count textMark s) + count textMark (concat romans) ≤ n → r + cond o (suc (count romanMark s)) (count romanMark s) ≤ n
+        → ((romans : List (List ℕ)) (t r : ℕ) → t + count textMark s + count textMark (concat romans) ≤ n → r + count romanMark s ≤ n → numbersBelow n (numbers romans t r s) s ≡ true)
         → (let ks =
         cond m (t ∷ numbers romans (suc t) r s)
         (cond o (r ∷ elim romans as (λ _. List ℕ) [ [] ↦ numbers [] t (suc r) s | b ∷ bs ↦ numbers bs (t + marks b) (suc r) s ]) (numbers romans t r s)) in
-        cond (m || o) (ltb (first ks) n && numbersBelow n (rest ks) s) (numbersBelow n ks s) ≡ true)
+        cond (m || o) (ltb (first ks) n && numbersBelow n (restNumbers ks) s) (numbersBelow n ks s) ≡ true)
     go true p true q romans h g more = not-both x p q
     go true p false q romans h g more = rw (lt-ltb t n (omega arith)) (more romans (suc t) r (omega arith) g)
     go false p true q [] h g more = rw (lt-ltb r n (omega arith)) (more [] t (suc r) h (omega arith))
     go false p true q (b ∷ bs) h g more =
-        let c = count-append textMark b (joined bs) in let d = marks-count b in
+        let c = count-append textMark b (concat bs) in let d = marks-count b in
         rw (lt-ltb r n (omega arith)) (more bs (t + marks b) (suc r) (omega arith) (omega arith))
     go false p false q romans h g more = more romans t r h g
 
@@ -87,7 +87,7 @@ roman-occurs k (x ∷ s) romans t r h g = go (eqb x textMark) refl (eqb x romanM
         → (let ks =
         cond m (t ∷ numbers romans (suc t) r s)
         (cond o (r ∷ elim romans as (λ _. List ℕ) [ [] ↦ numbers [] t (suc r) s | b ∷ bs ↦ numbers bs (t + marks b) (suc r) s ]) (numbers romans t r s)) in
-        cond (m || o) (eqb (first ks) k || occurs k (rest ks) s) (occurs k ks s) ≡ true)
+        cond (m || o) (eqb (first ks) k || occurs k (restNumbers ks) s) (occurs k ks s) ≡ true)
     go true p true q romans g more = not-both x p q
     go true p false q romans g more = or-right (eqb t k) _ (more romans (suc t) r h g)
     go false p true q romans g more = met (eqb r k) refl romans
@@ -100,70 +100,70 @@ roman-occurs k (x ∷ s) romans t r h g = go (eqb x textMark) refl (eqb x romanM
     go false p false q romans g more = more romans t r h g
 
 -- ---- without nesting
-pub numbers-plain : (s : List ℕ) (romans : List (List ℕ)) (t r : ℕ) → hasMark (joined romans) ≡ false → numbers romans t r s ≡ order t r s
-unfolding numbers order joined
+pub numbers-plain : (s : List ℕ) (romans : List (List ℕ)) (t r : ℕ) → hasMark (concat romans) ≡ false → numbers romans t r s ≡ order t r s
+unfolding numbers order concat
 numbers-plain [] romans t r e = refl
 numbers-plain (x ∷ s) romans t r e =
     ap₂ (λ y z. cond (eqb x textMark) y (cond (eqb x romanMark) (r ∷ z) (numbers romans t r s))) (ap (λ l. t ∷ l) (numbers-plain s romans (suc t) r e)) (behind romans e (numbers-plain s))
     ∙ ap (λ z. cond (eqb x textMark) (t ∷ order (suc t) r s) (cond (eqb x romanMark) (r ∷ order t (suc r) s) z)) (numbers-plain s romans t r e)
   where
-    behind : (romans : List (List ℕ)) → hasMark (joined romans) ≡ false
-        → ((romans : List (List ℕ)) (t r : ℕ) → hasMark (joined romans) ≡ false → numbers romans t r s ≡ order t r s)
+    behind : (romans : List (List ℕ)) → hasMark (concat romans) ≡ false
+        → ((romans : List (List ℕ)) (t r : ℕ) → hasMark (concat romans) ≡ false → numbers romans t r s ≡ order t r s)
         → elim romans as (λ _. List ℕ) [ [] ↦ numbers [] t (suc r) s | b ∷ bs ↦ numbers bs (t + marks b) (suc r) s ] ≡ order t (suc r) s
     behind [] e more = more [] t (suc r) e
     behind (b ∷ bs) e more =
-        let both = or-neither (hasMark b) (hasMark (joined bs)) (sym (has-mark-append b (joined bs)) ∙ e) in
+        let both = or-neither (hasMark b) (hasMark (concat bs)) (sym (has-mark-append b (concat bs)) ∙ e) in
         let none : t + marks b ≡ t = ap (λ n. t + n) (marks-count b ∙ unmarked-count b (both .0) .0) ∙ add-zero t in
         ap (λ n. numbers bs n (suc r) s) none ∙ more bs t (suc r) (both .1)
 
 -- ---- stored blocks and the Rust's
-unfoldable pub AllFair : ℕ → List (List ℕ) → List (List ℕ) → Type 0
-AllFair k [] [] = Unit {0}
-AllFair k [] (b ∷ bs) = ⊥
-AllFair k (u ∷ us) [] = ⊥
-AllFair k (u ∷ us) (b ∷ bs) = Fair k u b × AllFair (suc k) us bs
+unfoldable pub AllStoredAs : ℕ → List (List ℕ) → List (List ℕ) → Type 0
+AllStoredAs k [] [] = Unit {0}
+AllStoredAs k [] (b ∷ bs) = ⊥
+AllStoredAs k (u ∷ us) [] = ⊥
+AllStoredAs k (u ∷ us) (b ∷ bs) = StoredAs k u b × AllStoredAs (suc k) us bs
 
-pub fair-length : (k : ℕ) (us bs : List (List ℕ)) → AllFair k us bs → length bs ≡ length us
-unfolding AllFair
-fair-length k [] [] h = refl
-fair-length k [] (b ∷ bs) h = absurd h
-fair-length k (u ∷ us) [] h = absurd h
-fair-length k (u ∷ us) (b ∷ bs) h = ap suc (fair-length (suc k) us bs (h .1))
+pub stored-as-length : (k : ℕ) (us bs : List (List ℕ)) → AllStoredAs k us bs → length bs ≡ length us
+unfolding AllStoredAs
+stored-as-length k [] [] h = refl
+stored-as-length k [] (b ∷ bs) h = absurd h
+stored-as-length k (u ∷ us) [] h = absurd h
+stored-as-length k (u ∷ us) (b ∷ bs) h = ap suc (stored-as-length (suc k) us bs (h .1))
 
-pub fair-at : (k : ℕ) (us bs : List (List ℕ)) → AllFair k us bs → (i : ℕ) → Fair (k + i) (blockAt us i) (blockAt bs i)
-unfolding AllFair blockAt numbersBelow fill
-fair-at k [] [] h i = record { js = []; begins = refl; below = refl; same = refl }
-fair-at k [] (b ∷ bs) h i = absurd h
-fair-at k (u ∷ us) [] h i = absurd h
-fair-at k (u ∷ us) (b ∷ bs) h zero = subst (λ n. Fair n u b) (sym (add-zero k)) (h .0)
-fair-at k (u ∷ us) (b ∷ bs) h (suc i) = subst (λ n. Fair n (blockAt us i) (blockAt bs i)) (suc-add k i ∙ sym (add-suc k i)) (fair-at (suc k) us bs (h .1) i)
+pub stored-as-at : (k : ℕ) (us bs : List (List ℕ)) → AllStoredAs k us bs → (i : ℕ) → StoredAs (k + i) (blockAt us i) (blockAt bs i)
+unfolding AllStoredAs blockAt numbersBelow fill
+stored-as-at k [] [] h i = record { mark-numbers = []; begins = refl; below = refl; same = refl }
+stored-as-at k [] (b ∷ bs) h i = absurd h
+stored-as-at k (u ∷ us) [] h i = absurd h
+stored-as-at k (u ∷ us) (b ∷ bs) h zero = subst (λ n. StoredAs n u b) (sym (add-zero k)) (h .0)
+stored-as-at k (u ∷ us) (b ∷ bs) h (suc i) = subst (λ n. StoredAs n (blockAt us i) (blockAt bs i)) (suc-add k i ∙ sym (add-suc k i)) (stored-as-at (suc k) us bs (h .1) i)
 
 unmarked-below : (k : ℕ) (s : List ℕ) → hasMark s ≡ false → numbersBelow k [] s ≡ true
 unfolding numbersBelow
 unmarked-below k [] e = refl
 unmarked-below k (b ∷ s) e = let parts = or-neither (isMark b) (hasMark s) e in rw (parts .0) (unmarked-below k s (parts .1))
 
-pub fair-texts : (k : ℕ) (texts us bs : List (List ℕ)) → Every Plain texts → AllFair (k + length texts) us bs → AllFair k (texts ++ us) (texts ++ bs)
-unfolding AllFair Every
-fair-texts k [] us bs h f = subst (λ n. AllFair n us bs) (add-zero k) f
-fair-texts k (b ∷ texts) us bs h f = (
-  record { js = []; begins = h .0 .begins; below = unmarked-below k b (h .0 .free); same = sym (fill-unmarked placeholder [] b (h .0 .free)) },
-  fair-texts (suc k) texts us bs (h .1) (subst (λ n. AllFair n us bs) (add-suc k (length texts) ∙ sym (suc-add k (length texts))) f),
+pub stored-as-texts : (k : ℕ) (texts us bs : List (List ℕ)) → Every MarkFreeBlock texts → AllStoredAs (k + length texts) us bs → AllStoredAs k (texts ++ us) (texts ++ bs)
+unfolding AllStoredAs Every
+stored-as-texts k [] us bs h f = subst (λ n. AllStoredAs n us bs) (add-zero k) f
+stored-as-texts k (b ∷ texts) us bs h f = (
+  record { mark-numbers = []; begins = h .0 .begins; below = unmarked-below k b (h .0 .mark-free); same = sym (fill-unmarked placeholder [] b (h .0 .mark-free)) },
+  stored-as-texts (suc k) texts us bs (h .1) (subst (λ n. AllStoredAs n us bs) (add-suc k (length texts) ∙ sym (suc-add k (length texts))) f),
 )
 
-pub fair-romans :
-    (s : List ℕ) (romans : List (List ℕ)) (k t : ℕ) → Every Enclosing romans → count romanMark s ≡ length romans → t + count textMark s + count textMark (joined romans) ≤ k
-    → AllFair k romans (numberedRomans romans t s)
-unfolding numberedRomans AllFair Every count joined
-fair-romans [] [] k t h c l = tt
-fair-romans [] (b ∷ bs) k t h c l = absurd (omega arith)
-fair-romans (x ∷ s) [] k t h c l = tt
-fair-romans (x ∷ s) (b ∷ bs) k t h c l = go (eqb x textMark) refl (eqb x romanMark) refl c l (fair-romans s)
+pub stored-as-romans :
+    (s : List ℕ) (romans : List (List ℕ)) (k t : ℕ) → Every Enclosing romans → count romanMark s ≡ length romans → t + count textMark s + count textMark (concat romans) ≤ k
+    → AllStoredAs k romans (numberedRomans romans t s)
+unfolding numberedRomans AllStoredAs Every count concat
+stored-as-romans [] [] k t h c l = tt
+stored-as-romans [] (b ∷ bs) k t h c l = absurd (omega arith)
+stored-as-romans (x ∷ s) [] k t h c l = tt
+stored-as-romans (x ∷ s) (b ∷ bs) k t h c l = go (eqb x textMark) refl (eqb x romanMark) refl c l (stored-as-romans s)
   where
     go : (m : Bool) → eqb x textMark ≡ m → (o : Bool) → eqb x romanMark ≡ o
-        → cond o (suc (count romanMark s)) (count romanMark s) ≡ suc (length bs) → t + cond m (suc (count textMark s)) (count textMark s) + count textMark (b ++ joined bs) ≤ k
-        → ((romans : List (List ℕ)) (k t : ℕ) → Every Enclosing romans → count romanMark s ≡ length romans → t + count textMark s + count textMark (joined romans) ≤ k → AllFair k romans (numberedRomans romans t s))
-        → AllFair k (b ∷ bs) (elim m as (λ _. List (List ℕ)) [
+        → cond o (suc (count romanMark s)) (count romanMark s) ≡ suc (length bs) → t + cond m (suc (count textMark s)) (count textMark s) + count textMark (b ++ concat bs) ≤ k
+        → ((romans : List (List ℕ)) (k t : ℕ) → Every Enclosing romans → count romanMark s ≡ length romans → t + count textMark s + count textMark (concat romans) ≤ k → AllStoredAs k romans (numberedRomans romans t s))
+        → AllStoredAs k (b ∷ bs) (elim m as (λ _. List (List ℕ)) [
           | true ↦ numberedRomans (b ∷ bs) (suc t) s
           | false ↦ elim o as (λ _. List (List ℕ)) [
             | true ↦ numbered [] t 0 b ∷ numberedRomans bs (t + marks b) s
@@ -173,9 +173,9 @@ fair-romans (x ∷ s) (b ∷ bs) k t h c l = go (eqb x textMark) refl (eqb x rom
     go true p true q c l more = not-both x p q
     go true p false q c l more = more (b ∷ bs) k (suc t) h c (omega arith)
     go false p true q c l more =
-        let a = count-append textMark b (joined bs) in let d = marks-count b in let z = h .0 .no-roman in (
+        let a = count-append textMark b (concat bs) in let d = marks-count b in let z = h .0 .no-roman in (
           record {
-            js = numbers [] t 0 b;
+            mark-numbers = numbers [] t 0 b;
             begins = h .0 .begins;
             below = numbers-below k b [] t 0 (omega arith) (omega arith);
             same = numbered-fill b [] t 0;

@@ -17,7 +17,7 @@ use Rattle.spec.specs.Laws.Booleans.{and-parts}
 use Rattle.spec.specs.Laws.Symbols.{digit-range}
 use Rattle.held_laws.specs.Decimal.{decimal, Digit, Digits, decimal-digits}
 use Rattle.held_laws.specs.Marks.{isMark}
-use Rattle.held_laws.specs.Losing.{typed}
+use Rattle.held_laws.specs.Losing.{digitsThenMark}
 use Rattle.held_laws.specs.Neat.{value, Neat, decimal-value, decimal-neat, neat-decimal}
 
 unfoldable pub horner : ℕ → List ℕ → Option ℕ
@@ -36,13 +36,13 @@ reads i (some t) = eqb i t
 digit-free : {d : ℕ} → Digit d → isMark d ≡ false
 digit-free {d} h = let low = h .low in rw (ne-eqb d textMark (λ e. omega arith), ne-eqb d romanMark (λ e. omega arith))
 
-horner-typed : (ds s : List ℕ) (v : ℕ) → Digits ds → typed ds s ≡ true → horner v s ≡ some (value v ds)
-unfolding horner typed value Digits
+horner-typed : (ds s : List ℕ) (v : ℕ) → Digits ds → digitsThenMark ds s ≡ true → horner v s ≡ some (value v ds)
+unfolding horner digitsThenMark value Digits
 horner-typed [] [] v g e = absurd (false≢true e)
 horner-typed [] (b ∷ s) v g e = rw e
 horner-typed (d ∷ ds) [] v g e = absurd (false≢true e)
 horner-typed (d ∷ ds) (b ∷ s) v g e =
-    let both = and-parts (eqb b d) (typed ds s) e in
+    let both = and-parts (eqb b d) (digitsThenMark ds s) e in
     let same = eqb-true b d (both .0) in
     rw (same, digit-free (g .0), le-leb 48 d (g .0 .low), le-leb d 57 (g .0 .high)) (horner-typed ds s (10 * v + (d - 48)) (g .1) (both .1))
 
@@ -54,15 +54,15 @@ found (some k) = k
 record Run (v u : ℕ) (s : List ℕ) : Type 0 where
   pub run : List ℕ
   pub digits : Digits run
-  pub here : typed run s ≡ true
+  pub here : digitsThenMark run s ≡ true
   pub worths : value v run ≡ u
 
 run-none : (v b : ℕ) (s : List ℕ) → isMark b ≡ true → Run v v (b ∷ s)
-unfolding typed value Digits
+unfolding digitsThenMark value Digits
 run-none v b s e = record { run = []; digits = tt; here = e; worths = refl }
 
 run-more : (v u b : ℕ) (s : List ℕ) → digit b ≡ true → Run (10 * v + (b - 48)) u s → Run v u (b ∷ s)
-unfolding typed value Digits
+unfolding digitsThenMark value Digits
 run-more v u b s e r =
     let range = digit-range b e in
     record {
@@ -84,62 +84,62 @@ horner-run (b ∷ s) v u e = go (isMark b) refl (digit b) refl (horner-run s (10
     go false p false q more e = absurd (Option·none-ne-some u e)
 
 -- ---- neat digits are read, and what is read is neat
-numeral-typed : (ds s : List ℕ) → Digits ds → Neat ds → typed ds s ≡ true → numeral s ≡ some (value 0 ds)
-unfolding numeral typed Neat Digits
+numeral-typed : (ds s : List ℕ) → Digits ds → Neat ds → digitsThenMark ds s ≡ true → numeral s ≡ some (value 0 ds)
+unfolding numeral digitsThenMark Neat Digits
 numeral-typed [] s g h e = absurd h
 numeral-typed (d ∷ ds) [] g h e = absurd (false≢true e)
 numeral-typed (d ∷ ds) (b ∷ s) g h e =
-    let both = and-parts (eqb b d) (typed ds s) e in
+    let both = and-parts (eqb b d) (digitsThenMark ds s) e in
     let same = eqb-true b d (both .0) in
     rw (same, digit-free (g .0), tail s h (both .1)) (sym (ap (λ c. horner 0 (c ∷ s)) same) ∙ horner-typed (d ∷ ds) (b ∷ s) 0 g e)
   where
-    tail : (s : List ℕ) → (48 < d) ⊎ ((d ≡ 48) × (ds ≡ [])) → typed ds s ≡ true → eqb d 48 && not (isMark (getD s 0 0)) ≡ false
+    tail : (s : List ℕ) → (48 < d) ⊎ ((d ≡ 48) × (ds ≡ [])) → digitsThenMark ds s ≡ true → eqb d 48 && not (isMark (getD s 0 0)) ≡ false
     tail s (inl h) e = rw (ne-eqb d 48 (λ q. omega arith))
-    tail [] (inr h) e = absurd (false≢true (sym (ap (λ l. typed l []) (h .1)) ∙ e))
+    tail [] (inr h) e = absurd (false≢true (sym (ap (λ l. digitsThenMark l []) (h .1)) ∙ e))
     tail (c ∷ s) (inr h) e =
-        let m : isMark c ≡ true = sym (ap (λ l. typed l (c ∷ s)) (h .1)) ∙ e in
+        let m : isMark c ≡ true = sym (ap (λ l. digitsThenMark l (c ∷ s)) (h .1)) ∙ e in
         rw (eq-eqb d 48 (h .0), m)
 
-no-more : (ds s : List ℕ) → Digits ds → typed ds s ≡ true → isMark (getD s 0 0) ≡ true → ds ≡ []
-unfolding typed Digits
+no-more : (ds s : List ℕ) → Digits ds → digitsThenMark ds s ≡ true → isMark (getD s 0 0) ≡ true → ds ≡ []
+unfolding digitsThenMark Digits
 no-more [] s g e m = refl
 no-more (x ∷ ds) [] g e m = absurd (false≢true e)
 no-more (x ∷ ds) (c ∷ s) g e m =
-    let same = eqb-true c x (and-parts (eqb c x) (typed ds s) e .0) in
+    let same = eqb-true c x (and-parts (eqb c x) (digitsThenMark ds s) e .0) in
     absurd (false≢true (sym (digit-free (g .0)) ∙ ap isMark (sym same) ∙ m))
 
-run-neat : (ds s : List ℕ) → Digits ds → typed ds s ≡ true → isMark (getD s 0 0) ≡ false → eqb (getD s 0 0) 48 && not (isMark (getD s 1 0)) ≡ false → Neat ds
-unfolding typed Digits Neat
+run-neat : (ds s : List ℕ) → Digits ds → digitsThenMark ds s ≡ true → isMark (getD s 0 0) ≡ false → eqb (getD s 0 0) 48 && not (isMark (getD s 1 0)) ≡ false → Neat ds
+unfolding digitsThenMark Digits Neat
 run-neat [] [] g e a b = absurd (false≢true e)
 run-neat [] (c ∷ s) g e a b = absurd (false≢true (sym a ∙ e))
 run-neat (d ∷ ds) [] g e a b = absurd (false≢true e)
 run-neat (d ∷ ds) (c ∷ s) g e a b = go (eqb c 48) refl b
   where
-    both : (eqb c d ≡ true) × (typed ds s ≡ true)
-    both = and-parts (eqb c d) (typed ds s) e
+    both : (eqb c d ≡ true) × (digitsThenMark ds s ≡ true)
+    both = and-parts (eqb c d) (digitsThenMark ds s) e
 
     go : (t : Bool) → eqb c 48 ≡ t → t && not (isMark (getD s 0 0)) ≡ false → (48 < d) ⊎ ((d ≡ 48) × (ds ≡ []))
     go true q b = inr (sym (eqb-true c d (both .0)) ∙ eqb-true c 48 q, no-more ds s (g .1) (both .1) (not-false _ b))
     go false q b = let other = eqb-false c 48 q in let same = eqb-true c d (both .0) in let low = g .0 .low in inl (omega arith)
 
-numeral-read : (s : List ℕ) (i : ℕ) → numeral s ≡ some i → typed (decimal i) s ≡ true
+numeral-read : (s : List ℕ) (i : ℕ) → numeral s ≡ some i → digitsThenMark (decimal i) s ≡ true
 unfolding numeral
 numeral-read s i e = go (isMark (getD s 0 0)) refl (eqb (getD s 0 0) 48 && not (isMark (getD s 1 0))) refl e
   where
-    go : (m : Bool) → isMark (getD s 0 0) ≡ m → (z : Bool) → eqb (getD s 0 0) 48 && not (isMark (getD s 1 0)) ≡ z → cond m none (cond z none (horner 0 s)) ≡ some i → typed (decimal i) s ≡ true
+    go : (m : Bool) → isMark (getD s 0 0) ≡ m → (z : Bool) → eqb (getD s 0 0) 48 && not (isMark (getD s 1 0)) ≡ z → cond m none (cond z none (horner 0 s)) ≡ some i → digitsThenMark (decimal i) s ≡ true
     go true p z q e = absurd (Option·none-ne-some i e)
     go false p true q e = absurd (Option·none-ne-some i e)
     go false p false q e =
         let r = horner-run s 0 i e in
-        ap (λ l. typed l s) (sym (neat-decimal (r .run) i (r .digits) (run-neat (r .run) s (r .digits) (r .here) p q) (r .worths))) ∙ r .here
+        ap (λ l. digitsThenMark l s) (sym (neat-decimal (r .run) i (r .digits) (run-neat (r .run) s (r .digits) (r .here) p q) (r .worths))) ∙ r .here
 
-pub read-typed : (i : ℕ) (s : List ℕ) → typed (decimal i) s ≡ reads i (numeral s)
-read-typed i s = go (typed (decimal i) s) refl (numeral s) refl
+pub read-typed : (i : ℕ) (s : List ℕ) → digitsThenMark (decimal i) s ≡ reads i (numeral s)
+read-typed i s = go (digitsThenMark (decimal i) s) refl (numeral s) refl
   where
-    forth : typed (decimal i) s ≡ true → numeral s ≡ some i
+    forth : digitsThenMark (decimal i) s ≡ true → numeral s ≡ some i
     forth e = numeral-typed (decimal i) s (decimal-digits i) (decimal-neat i) e ∙ ap some (decimal-value i)
 
-    go : (t : Bool) → typed (decimal i) s ≡ t → (f : Option ℕ) → numeral s ≡ f → t ≡ reads i f
+    go : (t : Bool) → digitsThenMark (decimal i) s ≡ t → (f : Option ℕ) → numeral s ≡ f → t ≡ reads i f
     go true e f q = sym (ap (reads i) (sym q ∙ forth e) ∙ eq-eqb i i refl)
     go false e (some k) q = sym (ne-eqb i k (λ same. false≢true (sym e ∙ numeral-read s i (q ∙ ap some (sym same)))))
     go false e none q = refl

@@ -11,14 +11,14 @@ use lib.ListN.{length, length-append}
 use Rattle.spec.specs.Result.{Result, passed, refused}
 use Rattle.spec.specs.Held.{Held, placeholder, numbered, numberedRomans, rustPutBack, putBack, inFull}
 use Rattle.spec.specs.Laws.Booleans.{or-neither}
-use Rattle.held_laws.specs.Marks.{hasMark, order, fill, numbersBelow, occurs, blockAt, joined, has-mark-append}
+use Rattle.held_laws.specs.Marks.{hasMark, order, fill, numbersBelow, occurs, blockAt, concat, has-mark-append}
 use Rattle.held_laws.specs.Broken.{marked}
 use Rattle.held_laws.specs.Losing.{lostBelow, nestedBelow}
-use Rattle.held_laws.specs.Agree.{after, restored-after, Agrees}
-use Rattle.held_laws.specs.Stored.{Fair, put-back-agrees}
-use Rattle.held_laws.specs.Noted.{noted, lost-noted, nested-joined}
-use Rattle.held_laws.specs.WellMade.{WellMade, lost, joined-append, plain-joined, marked-range}
-use Rattle.held_laws.specs.Numbering.{numbers, numbered-fill, numbers-below, roman-occurs, numbers-plain, AllFair, fair-length, fair-at, fair-texts, fair-romans}
+use Rattle.held_laws.specs.Agree.{after, restored-after, SameUnlessLost}
+use Rattle.held_laws.specs.Stored.{StoredAs, put-back-agrees}
+use Rattle.held_laws.specs.Noted.{noted, lost-noted, nested-concat}
+use Rattle.held_laws.specs.WellMade.{WellMade, lost, concat-append, concat-mark-free, marked-range}
+use Rattle.held_laws.specs.Numbering.{numbers, numbered-fill, numbers-below, roman-occurs, numbers-plain, AllStoredAs, stored-as-length, stored-as-at, stored-as-texts, stored-as-romans}
 use Rattle.held_laws.specs.InFull.{in-full-fill}
 
 module _ {h : Held} (made : WellMade h) where
@@ -34,14 +34,14 @@ module _ {h : Held} (made : WellMade h) where
   abbrev ks : List ℕ
   ks = numbers (h .romans) 0 first (h .text)
 
-  all-fair : AllFair 0 blocks rustBlocks
+  all-fair : AllStoredAs 0 blocks rustBlocks
   all-fair =
       let c = made .text-marks in
-      fair-texts 0 (h .texts) (h .romans) (numberedRomans (h .romans) 0 (h .text)) (made .texts)
-      (fair-romans (h .text) (h .romans) (0 + first) 0 (made .romans) (made .roman-marks) (omega arith))
+      stored-as-texts 0 (h .texts) (h .romans) (numberedRomans (h .romans) 0 (h .text)) (made .texts)
+      (stored-as-romans (h .text) (h .romans) (0 + first) 0 (made .romans) (made .roman-marks) (omega arith))
 
-  fair : (k : ℕ) → Fair k (blockAt blocks k) (blockAt rustBlocks k)
-  fair k = subst (λ n. Fair n (blockAt blocks k) (blockAt rustBlocks k)) (zero-add k) (fair-at 0 blocks rustBlocks all-fair k)
+  fair : (k : ℕ) → StoredAs k (blockAt blocks k) (blockAt rustBlocks k)
+  fair k = subst (λ n. StoredAs n (blockAt blocks k) (blockAt rustBlocks k)) (zero-add k) (stored-as-at 0 blocks rustBlocks all-fair k)
 
   below : numbersBelow (length blocks) ks (h .text) ≡ true
   below =
@@ -59,25 +59,25 @@ module _ {h : Held} (made : WellMade h) where
   unfolding rustPutBack
   rust =
       restored-after rustBlocks (numbered (h .romans) 0 first (h .text))
-      ∙ ap₂ (λ n s. after (blockAt rustBlocks) n s) (fair-length 0 blocks rustBlocks all-fair) (numbered-fill (h .text) (h .romans) 0 first)
+      ∙ ap₂ (λ n s. after (blockAt rustBlocks) n s) (stored-as-length 0 blocks rustBlocks all-fair) (numbered-fill (h .text) (h .romans) 0 first)
 
-  nested-same : nestedBelow (blockAt blocks) (length blocks) ≡ hasMark (joined (h .romans))
+  nested-same : nestedBelow (blockAt blocks) (length blocks) ≡ hasMark (concat (h .romans))
   nested-same =
-      nested-joined blocks
-      ∙ ap hasMark (joined-append (h .texts) (h .romans))
-      ∙ has-mark-append (joined (h .texts)) (joined (h .romans))
-      ∙ ap (λ t. t || hasMark (joined (h .romans))) (plain-joined (h .texts) (made .texts))
+      nested-concat blocks
+      ∙ ap hasMark (concat-append (h .texts) (h .romans))
+      ∙ has-mark-append (concat (h .texts)) (concat (h .romans))
+      ∙ ap (λ t. t || hasMark (concat (h .romans))) (concat-mark-free (h .texts) (made .texts))
 
   -- where a block holds a mark, the numbers don't matter
   lost-same : nestedBelow (blockAt blocks) (length blocks) || lostBelow (length blocks) ks (h .text) ≡ lost h
   unfolding lost
-  lost-same = ap₂ (λ x y. x || y) nested-same (lost-noted (length blocks) (h .text) ks below) ∙ go (hasMark (joined (h .romans))) refl
+  lost-same = ap₂ (λ x y. x || y) nested-same (lost-noted (length blocks) (h .text) ks below) ∙ go (hasMark (concat (h .romans))) refl
     where
-      go : (t : Bool) → hasMark (joined (h .romans)) ≡ t → t || noted ks (h .text) ≡ t || noted (order 0 first (h .text)) (h .text)
+      go : (t : Bool) → hasMark (concat (h .romans)) ≡ t → t || noted ks (h .text) ≡ t || noted (order 0 first (h .text)) (h .text)
       go true e = refl
       go false e = ap (λ l. noted l (h .text)) (numbers-plain (h .text) (h .romans) 0 first e)
 
-  pub rust-agrees : Agrees (lost h) (rustPutBack h) (inFull h)
+  pub rust-agrees : SameUnlessLost (lost h) (rustPutBack h) (inFull h)
   unfolding lost
   rust-agrees =
       let a = put-back-agrees (blockAt blocks) (blockAt rustBlocks) fair (length blocks) ks (h .text) outer below in
@@ -85,7 +85,7 @@ module _ {h : Held} (made : WellMade h) where
     where
       own : lost h ≡ false → fill (blockAt blocks) ks (h .text) ≡ inFull h
       own e =
-          let none = or-neither (hasMark (joined (h .romans))) (noted (order 0 first (h .text)) (h .text)) e .0 in
+          let none = or-neither (hasMark (concat (h .romans))) (noted (order 0 first (h .text)) (h .text)) e .0 in
           ap (λ l. fill (blockAt blocks) l (h .text)) (numbers-plain (h .text) (h .romans) 0 first none) ∙ sym (in-full-fill made none)
 
   pub put-back-lost : putBack h ≡ cond (lost h) (refused 6) (passed (inFull h))

@@ -16,7 +16,7 @@ use Rattle.spec.specs.Symbols.{starts, textMark}
 use Rattle.spec.specs.Held.{placeholder}
 use Rattle.spec.specs.Laws.Symbols.{starts-split, starts-unequal}
 use Rattle.held_laws.specs.Decimal.{decimal, Digit, Digits, decimal-digits}
-use Rattle.held_laws.specs.Replacing.{Unmarked, digit-not, numberMark, here-too, placeholder-long, put, put-none, put-not, put-other, put-mark, put-met, put-over, put-taken}
+use Rattle.held_laws.specs.Replacing.{TextMarkFree, digit-not, numberMark, here-too, placeholder-long, putBlock, put-none, put-not, put-other, put-mark, put-met, put-over, put-taken}
 use Rattle.held_laws.specs.Broken.{marked}
 
 abbrev pub backslash : ℕ
@@ -27,8 +27,8 @@ pub record Remains (i : ℕ) (s : List ℕ) : Type 0 where
   pub between : List ℕ
   pub right : List ℕ
   pub split : s ≡ left ++ (backslash ∷ (between ++ (textMark ∷ right)))
-  pub plain : Unmarked between
-  pub dead : (t : ℕ) → i ≤ t → here-too t right ≡ false
+  pub plain : TextMarkFree between
+  pub later-absent : (t : ℕ) → i ≤ t → here-too t right ≡ false
 
 marked-behind : (x s : List ℕ) → marked s ≡ true → marked (x ++ s) ≡ true
 marked-behind [] s e = e
@@ -51,7 +51,7 @@ remains-behind x r =
       right = r .right;
       split = ap (λ l. x ++ l) (r .split) ∙ sym (append-assoc x (r .left) (backslash ∷ (r .between ++ (textMark ∷ r .right))));
       plain = r .plain;
-      dead = r .dead;
+      later-absent = r .later-absent;
     }
 
 -- ---- a placeholder has marks and digits alone
@@ -77,7 +77,7 @@ starts-left (q ∷ p) (b ∷ x) s h = ap (λ t. t && eqb b q) (starts-left p x s
 
 module _ (i : ℕ) (fresh : List ℕ) where
   abbrev puts : List ℕ → List ℕ
-  puts = put i fresh
+  puts = putBlock i fresh
 
   abbrev Splits : List ℕ → Type 0
   Splits x = (s : List ℕ) → puts (x ++ (backslash ∷ s)) ≡ puts x ++ (backslash ∷ puts s)
@@ -156,7 +156,7 @@ module _ (i : ℕ) (fresh : List ℕ) where
               ap puts (r .split)
               ∙ put-split (r .left) (r .between ++ (textMark ∷ r .right))
               ∙ ap (λ l. puts (r .left) ++ (backslash ∷ l))
-              (put-over i fresh (r .between) (textMark ∷ r .right) (r .plain) ∙ ap (λ l. r .between ++ l) (put-mark i fresh (r .right) (r .dead i (omega arith))));
+              (put-over i fresh (r .between) (textMark ∷ r .right) (r .plain) ∙ ap (λ l. r .between ++ l) (put-mark i fresh (r .right) (r .later-absent i (omega arith))));
           plain = r .plain;
-          dead = λ t h. still-dead (decimal t) (decimal-digits t) (r .right) (r .dead t (omega arith));
+          later-absent = λ t h. still-dead (decimal t) (decimal-digits t) (r .right) (r .later-absent t (omega arith));
         }

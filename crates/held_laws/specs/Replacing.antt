@@ -48,9 +48,9 @@ module _ (p : ℕ) (q fresh : List ℕ) where
       rw (starts-self q s, eq-eqb p p refl) (ap (λ l. fresh ++ l) (rw few (passed q s p)))
 
 -- ---- digits and marks
-unfoldable pub Unmarked : List ℕ → Type 0
-Unmarked [] = Unit {0}
-Unmarked (b ∷ s) = (eqb b textMark ≡ false) × Unmarked s
+unfoldable pub TextMarkFree : List ℕ → Type 0
+TextMarkFree [] = Unit {0}
+TextMarkFree (b ∷ s) = (eqb b textMark ≡ false) × TextMarkFree s
 
 pub digit-not : {d : ℕ} (b : ℕ) → Digit d → (b < 48) ⊎ (57 < b) → eqb b d ≡ false
 digit-not {d} b h o = ne-eqb b d (λ e. let low = h .low in let high = h .high in ⊎-elim (λ l. omega arith) (λ l. omega arith) o)
@@ -58,8 +58,8 @@ digit-not {d} b h o = ne-eqb b d (λ e. let low = h .low in let high = h .high i
 pub digit-unmarked : {d : ℕ} → Digit d → eqb d textMark ≡ false
 digit-unmarked {d} h = ne-eqb d textMark (λ e. let low = h .low in omega arith)
 
-pub digits-unmarked : (ds : List ℕ) → Digits ds → Unmarked ds
-unfolding Digits Unmarked
+pub digits-unmarked : (ds : List ℕ) → Digits ds → TextMarkFree ds
+unfolding Digits TextMarkFree
 digits-unmarked [] h = tt
 digits-unmarked (d ∷ ds) h = (digit-unmarked (h .0), digits-unmarked ds (h .1))
 
@@ -86,45 +86,45 @@ unfolding placeholder
 placeholder-long k = omega arith
 
 module _ (i : ℕ) (fresh : List ℕ) where
-  abbrev pub put : List ℕ → List ℕ
-  put s = replace (placeholder i) fresh s
+  abbrev pub putBlock : List ℕ → List ℕ
+  putBlock s = replace (placeholder i) fresh s
 
-  pub put-none : put [] ≡ []
+  pub put-none : putBlock [] ≡ []
   unfolding replace sweep
   put-none = refl
 
-  pub put-not : (b : ℕ) (s : List ℕ) → starts (placeholder i) (b ∷ s) ≡ false → put (b ∷ s) ≡ b ∷ put s
+  pub put-not : (b : ℕ) (s : List ℕ) → starts (placeholder i) (b ∷ s) ≡ false → putBlock (b ∷ s) ≡ b ∷ putBlock s
   unfolding placeholder
   put-not = replace-other textMark (numberMark i) fresh
 
-  pub put-other : (b : ℕ) (s : List ℕ) → eqb b textMark ≡ false → put (b ∷ s) ≡ b ∷ put s
+  pub put-other : (b : ℕ) (s : List ℕ) → eqb b textMark ≡ false → putBlock (b ∷ s) ≡ b ∷ putBlock s
   unfolding placeholder
   put-other b s e = replace-other textMark (numberMark i) fresh b s (starts-unequal textMark b (numberMark i) s e)
 
-  pub put-mark : (s : List ℕ) → here-too i s ≡ false → put (textMark ∷ s) ≡ textMark ∷ put s
+  pub put-mark : (s : List ℕ) → here-too i s ≡ false → putBlock (textMark ∷ s) ≡ textMark ∷ putBlock s
   unfolding placeholder
   put-mark s e = replace-other textMark (numberMark i) fresh textMark s (rw e)
 
-  pub put-met : (s : List ℕ) → put (placeholder i ++ s) ≡ fresh ++ put s
+  pub put-met : (s : List ℕ) → putBlock (placeholder i ++ s) ≡ fresh ++ putBlock s
   unfolding placeholder
   put-met s = replace-met textMark (numberMark i) fresh s
 
   -- a mark with the number behind it is taken
-  pub put-taken : (s : List ℕ) → here-too i s ≡ true → put (textMark ∷ s) ≡ fresh ++ put (drop (length (numberMark i)) s)
+  pub put-taken : (s : List ℕ) → here-too i s ≡ true → putBlock (textMark ∷ s) ≡ fresh ++ putBlock (drop (length (numberMark i)) s)
   unfolding placeholder
-  put-taken s met = ap (λ l. put (textMark ∷ l)) (starts-split (numberMark i) s met) ∙ put-met (drop (length (numberMark i)) s)
+  put-taken s met = ap (λ l. putBlock (textMark ∷ l)) (starts-split (numberMark i) s met) ∙ put-met (drop (length (numberMark i)) s)
 
-  pub put-over : (x s : List ℕ) → Unmarked x → put (x ++ s) ≡ x ++ put s
-  unfolding Unmarked
+  pub put-over : (x s : List ℕ) → TextMarkFree x → putBlock (x ++ s) ≡ x ++ putBlock s
+  unfolding TextMarkFree
   put-over [] s h = refl
   put-over (b ∷ x) s h = put-other b (x ++ s) (h .0) ∙ ap (λ l. b ∷ l) (put-over x s (h .1))
 
   -- another number's placeholder is passed up to its second mark
-  pub put-past : (k : ℕ) (s : List ℕ) → (i ≡ k → ⊥) → put (placeholder k ++ s) ≡ textMark ∷ decimal k ++ put (textMark ∷ s)
+  pub put-block-past : (k : ℕ) (s : List ℕ) → (i ≡ k → ⊥) → putBlock (placeholder k ++ s) ≡ textMark ∷ decimal k ++ putBlock (textMark ∷ s)
   unfolding placeholder
-  put-past k s other =
+  put-block-past k s other =
       let e : placeholder k ++ s ≡ textMark ∷ (decimal k ++ (textMark ∷ s)) = ap (λ l. textMark ∷ l) (append-assoc (decimal k) (textMark ∷ []) s) in
-      ap put e
+      ap putBlock e
       ∙ put-mark (decimal k ++ (textMark ∷ s)) (go (here-too i (decimal k ++ (textMark ∷ s))) refl)
       ∙ ap (λ l. textMark ∷ l) (put-over (decimal k) (textMark ∷ s) (digits-unmarked (decimal k) (decimal-digits k)))
     where

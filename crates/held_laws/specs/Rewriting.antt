@@ -26,11 +26,11 @@ pub record Name (w : List ℕ) : Type 0 where
   pub more : List ℕ
   pub split : w ≡ start ∷ more
   pub no-digit : digit start ≡ false
-  pub free : hasMark w ≡ false
+  pub mark-free : hasMark w ≡ false
 
 -- what the rule does where the name stands: `allowed` and `fresh` see the symbols before and behind it
-abbrev pub named : List ℕ → (ℕ → ℕ → Bool) → (ℕ → ℕ → List ℕ) → Rule
-named name allowed fresh before s =
+abbrev pub nameRule : List ℕ → (ℕ → ℕ → Bool) → (ℕ → ℕ → List ℕ) → Rule
+nameRule name allowed fresh before s =
     let behind = head (drop (length name) s) in
     cond (starts name s && allowed before behind) (taken (length name) (fresh before behind)) (kept s)
 
@@ -40,7 +40,7 @@ pub record Between (rule : Rule) : Type 0 where
   pub allowed : ℕ → ℕ → Bool
   pub fresh : ℕ → ℕ → List ℕ
   pub a-name : Name name
-  pub same : (before : ℕ) (s : List ℕ) → rule before s ≡ named name allowed fresh before s
+  pub same : (before : ℕ) (s : List ℕ) → rule before s ≡ nameRule name allowed fresh before s
   pub plain : (before behind : ℕ) → hasMark (fresh before behind) ≡ false
   pub allowed-before : (behind : ℕ) → allowed romanMark behind ≡ allowed textMark behind
   pub allowed-behind : (before : ℕ) → allowed before romanMark ≡ allowed before textMark
@@ -124,7 +124,7 @@ module _ {rule : Rule} (between : Between rule) where
           marksOf (turn .fresh) ≡ marksOf (take (suc (turn .more)) (x ∷ s)))
       go true e true =
           unmarked-marks (between .fresh before behind) (between .plain before behind)
-          ∙ sym (unmarked-marks (between .name) (between .a-name .free))
+          ∙ sym (unmarked-marks (between .name) (between .a-name .mark-free))
           ∙ ap marksOf
           (sym (take-append-seam (between .name) (drop (length (between .name)) (x ∷ s)))
           ∙ ap₂ take (sym long) (sym (starts-split (between .name) (x ∷ s) e)))

@@ -1,5 +1,5 @@
 -- Holding out the blocks of one name, turn by turn. Assumes nothing.
---     close-behind    what stands behind a closer is an end of the text
+--     close-suffix    what stands behind a closer is an end of the text
 --     Turns           the four kinds of turns of `takeOut`, as a rule on which to go by induction
 --     turns           they are what `takeOut` does
 use mathlib.Core.Path.{_≡_, refl, sym, ap, ap₂, _∙_, subst}
@@ -23,22 +23,22 @@ theText none = []
 theText (some s) = s
 
 -- r is an end of s, and not the whole
-pub record Behind (s r : List ℕ) : Type 0 where
+pub record ProperSuffix (s r : List ℕ) : Type 0 where
   pub head : ℕ
   pub front : List ℕ
   pub split : s ≡ head ∷ (front ++ r)
 
-behind-more : (x : ℕ) {s r : List ℕ} → Behind s r → Behind (x ∷ s) r
+behind-more : (x : ℕ) {s r : List ℕ} → ProperSuffix s r → ProperSuffix (x ∷ s) r
 behind-more x b = record { head = x; front = b .head ∷ b .front; split = ap (λ l. x ∷ l) (b .split) }
 
-pub close-behind : (o c : ℕ) (s : List ℕ) (d : ℕ) (r : List ℕ) → close o c d s ≡ some r → Behind s r
+pub close-suffix : (o c : ℕ) (s : List ℕ) (d : ℕ) (r : List ℕ) → close o c d s ≡ some r → ProperSuffix s r
 unfolding close
-close-behind o c [] d r e = absurd (Option·none-ne-some r e)
-close-behind o c (x ∷ s) d r e = go (side o c x) d e (close-behind o c s)
+close-suffix o c [] d r e = absurd (Option·none-ne-some r e)
+close-suffix o c (x ∷ s) d r e = go (side o c x) d e (close-suffix o c s)
   where
     go : (z : Side) (d : ℕ)
         → elim z as (λ _. Option (List ℕ)) [ opens ↦ close o c (suc d) s | closes ↦ elim d as (λ _. Option (List ℕ)) [ zero ↦ some s | suc e ↦ close o c e s ] | neither ↦ close o c d s ] ≡ some r
-        → ((d : ℕ) (r : List ℕ) → close o c d s ≡ some r → Behind s r) → Behind (x ∷ s) r
+        → ((d : ℕ) (r : List ℕ) → close o c d s ≡ some r → ProperSuffix s r) → ProperSuffix (x ∷ s) r
     go opens d e more = behind-more x (more (suc d) r e)
     go closes zero e more = record { head = x; front = []; split = ap (λ l. x ∷ theText l) e }
     go closes (suc d) e more = behind-more x (more d r e)
@@ -54,11 +54,11 @@ module _ (name : List ℕ) (mark : ℕ) where
         (x : ℕ) (block behind : List ℕ) (t : Taken) → starts name (x ∷ (block ++ behind)) ≡ true
         → findMatchingBrace (drop (length name) (x ∷ (block ++ behind))) ≡ some behind → Turns behind t → Turns (x ∷ (block ++ behind)) (taking mark (x ∷ block) t)
 
-  pub skipped : (skip : ℕ) (s : List ℕ) → takeOut name mark skip s ≡ takeOut name mark 0 (drop skip s)
+  pub take-out-skipped : (skip : ℕ) (s : List ℕ) → takeOut name mark skip s ≡ takeOut name mark 0 (drop skip s)
   unfolding takeOut
-  skipped zero s = refl
-  skipped (suc skip) [] = refl
-  skipped (suc skip) (b ∷ s) = skipped skip s
+  take-out-skipped zero s = refl
+  take-out-skipped (suc skip) [] = refl
+  take-out-skipped (suc skip) (b ∷ s) = take-out-skipped skip s
 
   pub turn-passing : (x : ℕ) (s : List ℕ) → starts name (x ∷ s) ≡ false → takeOut name mark 0 (x ∷ s) ≡ leaving x (takeOut name mark 0 s)
   unfolding takeOut
@@ -101,7 +101,7 @@ module _ (name : List ℕ) (mark : ℕ) where
   turn-holding x block behind e c =
       at-name x (block ++ behind) (some behind) e c
       ∙ ap₂ (taking mark) (until-append (x ∷ block) behind)
-      (skipped (length (until (block ++ behind) behind)) (block ++ behind)
+      (take-out-skipped (length (until (block ++ behind) behind)) (block ++ behind)
       ∙ ap (λ u. takeOut name mark 0 (drop (length u) (block ++ behind))) (until-append block behind)
       ∙ ap (takeOut name mark 0) (drop-append-seam block behind))
 
@@ -110,8 +110,8 @@ module _ (name : List ℕ) (mark : ℕ) where
   closed-block x s behind e c =
       go name (starts-split name (x ∷ s) e ∙ ap (λ l. name ++ l) (b .split))
     where
-      b : Behind (drop (length name) (x ∷ s)) behind
-      b = close-behind (code "{") (code "}") (drop (length name) (x ∷ s)) 0 behind c
+      b : ProperSuffix (drop (length name) (x ∷ s)) behind
+      b = close-suffix (code "{") (code "}") (drop (length name) (x ∷ s)) 0 behind c
 
       go : (p : List ℕ) → x ∷ s ≡ p ++ (b .head ∷ (b .front ++ behind)) → (front : List ℕ) × (s ≡ front ++ behind)
       go [] w = (b .front, ap (drop 1) w)

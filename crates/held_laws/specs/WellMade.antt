@@ -1,7 +1,7 @@
 -- What is held: the marks of a text and of its `\mathrm` blocks are as many as its blocks. Assumes nothing.
---     Plain, Enclosing   what a `\text` block and a `\mathrm` block are
---     WellMade           what holding out gives, and what rewriting between the marks keeps
---     lost               the Rust loses a block: a `\mathrm` block holds a mark, or a typed number is taken for a block
+--     MarkFreeBlock, Enclosing   what a `\text` block and a `\mathrm` block are
+--     WellMade                   what holding out gives, and what rewriting between the marks keeps
+--     lost                       the Rust loses a block: a `\mathrm` block holds a mark, or a typed number is taken for a block
 use mathlib.Core.Path.{_≡_, refl, sym, ap, ap₂, _∙_}
 use mathlib.Core.Bool.{Bool, true, false, cond, _||_, false≢true}
 use mathlib.Core.List.{List, [], _∷_, _++_, append-assoc}
@@ -14,7 +14,7 @@ use Rattle.spec.specs.Symbols.{textMark, romanMark}
 use Rattle.spec.specs.Held.{Held, marks}
 use Rattle.spec.specs.Laws.Booleans.{or-neither}
 use Rattle.spec.specs.Laws.Held.{unheld}
-use Rattle.held_laws.specs.Marks.{isMark, hasMark, count, order, blockAt, joined, has-mark-append}
+use Rattle.held_laws.specs.Marks.{isMark, hasMark, count, order, blockAt, concat, has-mark-append}
 use Rattle.held_laws.specs.Remains.{backslash}
 use Rattle.held_laws.specs.Noted.{noted}
 
@@ -22,9 +22,9 @@ unfoldable pub Every : (List ℕ → Type 0) → List (List ℕ) → Type 0
 Every P [] = Unit {0}
 Every P (b ∷ bs) = P b × Every P bs
 
-pub record Plain (b : List ℕ) : Type 0 where
+pub record MarkFreeBlock (b : List ℕ) : Type 0 where
   pub begins : b ≡ backslash ∷ drop 1 b
-  pub free : hasMark b ≡ false
+  pub mark-free : hasMark b ≡ false
 
 -- it may hold the marks of `\text` blocks
 pub record Enclosing (b : List ℕ) : Type 0 where
@@ -32,14 +32,14 @@ pub record Enclosing (b : List ℕ) : Type 0 where
   pub no-roman : count romanMark b ≡ 0
 
 pub record WellMade (h : Held) : Type 0 where
-  pub texts : Every Plain (h .texts)
+  pub texts : Every MarkFreeBlock (h .texts)
   pub romans : Every Enclosing (h .romans)
-  pub text-marks : count textMark (h .text) + count textMark (joined (h .romans)) ≡ length (h .texts)
+  pub text-marks : count textMark (h .text) + count textMark (concat (h .romans)) ≡ length (h .texts)
   pub roman-marks : count romanMark (h .text) ≡ length (h .romans)
 
 -- tested mark by mark: behind the mark of block k stands a number t, and then the mark of block j, with t < k and t ≤ j
 unfoldable pub lost : Held → Bool
-lost h = hasMark (joined (h .romans)) || noted (order 0 (length (h .texts)) (h .text)) (h .text)
+lost h = hasMark (concat (h .romans)) || noted (order 0 (length (h .texts)) (h .text)) (h .text)
 
 -- ---- counting
 pub count-append : (m : ℕ) (x y : List ℕ) → count m (x ++ y) ≡ count m x + count m y
@@ -86,15 +86,15 @@ pub unheld-unmarked : (s : List ℕ) → WellMade (unheld s) → hasMark s ≡ f
 unheld-unmarked s made = count-unmarked s (let few = made .text-marks in omega arith) (made .roman-marks)
 
 -- ---- lists of blocks
-pub joined-append : (bs cs : List (List ℕ)) → joined (bs ++ cs) ≡ joined bs ++ joined cs
-unfolding joined
-joined-append [] cs = refl
-joined-append (b ∷ bs) cs = ap (λ l. b ++ l) (joined-append bs cs) ∙ sym (append-assoc b (joined bs) (joined cs))
+pub concat-append : (bs cs : List (List ℕ)) → concat (bs ++ cs) ≡ concat bs ++ concat cs
+unfolding concat
+concat-append [] cs = refl
+concat-append (b ∷ bs) cs = ap (λ l. b ++ l) (concat-append bs cs) ∙ sym (append-assoc b (concat bs) (concat cs))
 
-pub plain-joined : (bs : List (List ℕ)) → Every Plain bs → hasMark (joined bs) ≡ false
-unfolding Every joined
-plain-joined [] h = refl
-plain-joined (b ∷ bs) h = has-mark-append b (joined bs) ∙ ap₂ (λ x y. x || y) (h .0 .free) (plain-joined bs (h .1))
+pub concat-mark-free : (bs : List (List ℕ)) → Every MarkFreeBlock bs → hasMark (concat bs) ≡ false
+unfolding Every concat
+concat-mark-free [] h = refl
+concat-mark-free (b ∷ bs) h = has-mark-append b (concat bs) ∙ ap₂ (λ x y. x || y) (h .0 .mark-free) (concat-mark-free bs (h .1))
 
 pub block-append : (bs cs : List (List ℕ)) (k : ℕ) → blockAt (bs ++ cs) (length bs + k) ≡ blockAt cs k
 unfolding blockAt
@@ -114,8 +114,8 @@ marked-within [] k e = absurd (false≢true e)
 marked-within (b ∷ bs) zero e = omega arith
 marked-within (b ∷ bs) (suc k) e = let l = marked-within bs k e in omega arith
 
-pub marked-range : (bs cs : List (List ℕ)) → Every Plain bs → (k : ℕ) → hasMark (blockAt (bs ++ cs) k) ≡ true → (length bs ≤ k) × (k < length bs + length cs)
+pub marked-range : (bs cs : List (List ℕ)) → Every MarkFreeBlock bs → (k : ℕ) → hasMark (blockAt (bs ++ cs) k) ≡ true → (length bs ≤ k) × (k < length bs + length cs)
 unfolding blockAt Every
 marked-range [] cs h k e = let l = marked-within cs k e in (omega arith, omega arith)
-marked-range (b ∷ bs) cs h zero e = absurd (false≢true (sym (h .0 .free) ∙ e))
+marked-range (b ∷ bs) cs h zero e = absurd (false≢true (sym (h .0 .mark-free) ∙ e))
 marked-range (b ∷ bs) cs h (suc k) e = let l = marked-range bs cs (h .1) k e in let low = l .0 in let high = l .1 in (omega arith, omega arith)

@@ -1,6 +1,6 @@
 -- What the exported numbers mean. Assumes nothing.
---     converted    0 and a byte count, or document 01's number of a refusal and 0
---     checked      yes and an atom count, or no and 0
+--     resultOf         0 and a byte count, or document 01's number of a refusal and 0
+--     plainAnswerOf    yes and an atom count, or no and 0
 use mathlib.Core.Path.{_≡_, refl, sym, ap, _∙_}
 use mathlib.Core.Bool.{Bool, true, false}
 use mathlib.Core.List.{List}
@@ -10,16 +10,16 @@ use Rattle.spec.specs.Pipeline.{Call}
 use Rattle.text.specs.Stage.{number}
 use Rattle.text.specs.declared.Refusal.{Refusal}
 use Rattle.text.specs.declared.Refusal.the-variants.{ForeignByte, LongFormula, FaultyTable, NarrowWork, Overgrown, LostBlock, Unsettled, BareDelimiter, BarredSolidus, ShortOutput}
-use Rattle.plain.specs.declared.Answer.{Answer}
-use Rattle.plain.specs.declared.Answer.the-variants.{Yes, No}
+use Rattle.plain_check.specs.declared.PlainAnswer.{PlainAnswer}
+use Rattle.plain_check.specs.declared.PlainAnswer.the-variants.{Yes, No}
 
-abbrev pub converted : ℕ → ℕ → Result ℕ
-converted zero count = passed count
-converted (suc k) count = refused (suc k)
+abbrev pub resultOf : ℕ → ℕ → Result ℕ
+resultOf zero count = passed count
+resultOf (suc k) count = refused (suc k)
 
-abbrev pub checked : Bool → ℕ → Answer
-checked true atoms = Yes atoms
-checked false atoms = No
+abbrev pub plainAnswerOf : Bool → ℕ → PlainAnswer
+plainAnswerOf true atoms = Yes atoms
+plainAnswerOf false atoms = No
 
 -- ---- a call, its answer in numbers
 pub call-answered :
@@ -29,10 +29,10 @@ pub call-answered :
 call-answered e c = record { order = c .order; ordered = c .ordered; answers = sym e ∙ c .answers; clears = c .clears; writes = c .writes }
 
 -- no refusal has the number 0
-pub refusal-coded : (why : Refusal) {r : ℕ} (count : ℕ) → r ≡ number why → refused (number why) ≡ converted r count
-refusal-coded why {r} count e = go why ∙ ap (λ n. converted n count) (sym e)
+pub refusal-coded : (why : Refusal) {r : ℕ} (count : ℕ) → r ≡ number why → refused (number why) ≡ resultOf r count
+refusal-coded why {r} count e = go why ∙ ap (λ n. resultOf n count) (sym e)
   where
-    go : (why : Refusal) → refused (number why) ≡ converted (number why) count
+    go : (why : Refusal) → refused (number why) ≡ resultOf (number why) count
     go ForeignByte = refl
     go LongFormula = refl
     go FaultyTable = refl

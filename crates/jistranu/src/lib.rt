@@ -1,11 +1,11 @@
 // The library that C and Rust link: the entry and the plain check, each with numbers for its answer.
-use math_conv::Answer as Converted;
-use plain::Answer as Checked;
+use math_conv::Answer;
+use plain_check::PlainAnswer;
 ghost use mathlib.Core.Path.{_≡_};
 ghost use mathlib.Core.Bool.{false};
 ghost use Rattle.spec.specs.Pipeline.{Call};
-ghost use Rattle.plain.specs.Check.{Checked as PlainChecked};
-ghost use Rattle.jistranu.specs.Codes.{converted, checked};
+ghost use Rattle.plain_check.specs.Check.{Checked as PlainChecked};
+ghost use Rattle.jistranu.specs.Codes.{resultOf, plainAnswerOf};
 
 // 0, and in `count` the bytes of LaTeX at the start of `output`; or the number of the refusal, and 0.
 #[no_mangle]
@@ -17,16 +17,16 @@ pub extern "C" fn jistranu_typst_to_latex(
     output: &mut [u8],
     count: &mut usize,
 ) -> u64
-    ensures { λ r. ⌜ Call (now (formula .entry)) (now (table .entry)) display (now (work .entry)) (now (output .entry)) (converted r (now (count .exit))) (now (work .exit)) (now (output .exit)) ⌝ }
+    ensures { λ r. ⌜ Call (now (formula .entry)) (now (table .entry)) display (now (work .entry)) (now (output .entry)) (resultOf r (now (count .exit))) (now (work .exit)) (now (output .exit)) ⌝ }
     ensures { λ r. ⌜ ((r ≡ 0 → ⊥) → now (count .exit) ≡ 0) ⌝ }
 {
     let answer = math_conv::typst_to_latex(formula, table, display, work, output);
     match answer {
-        Converted::Done(n) => {
+        Answer::Done(n) => {
             *count = n;
             0
         }
-        Converted::Refused(why) => {
+        Answer::Refused(why) => {
             *count = 0;
             text::number(why)
         }
@@ -36,16 +36,16 @@ pub extern "C" fn jistranu_typst_to_latex(
 // Whether the formula is plain, and in `atoms` how many atoms it has, or 0.
 #[no_mangle]
 pub extern "C" fn jistranu_plain_check(formula: &[u8], atoms: &mut usize) -> bool
-    ensures { λ r. ⌜ PlainChecked (now (formula .entry)) (checked r (now (atoms .exit))) ⌝ }
+    ensures { λ r. ⌜ PlainChecked (now (formula .entry)) (plainAnswerOf r (now (atoms .exit))) ⌝ }
     ensures { λ r. ⌜ (r ≡ false → now (atoms .exit) ≡ 0) ⌝ }
 {
-    let answer = plain::plain_check(formula);
+    let answer = plain_check::plain_check(formula);
     match answer {
-        Checked::Yes(n) => {
+        PlainAnswer::Yes(n) => {
             *atoms = n;
             true
         }
-        Checked::No => {
+        PlainAnswer::No => {
             *atoms = 0;
             false
         }

@@ -12,13 +12,13 @@ use borrow.Author.Tests.{eq-eqb, ne-eqb}
 use Rattle.spec.specs.Symbols.{bytes, is, empty, trim, starts, ends}
 use Rattle.spec.specs.Finish.{hasAlignment, hasLineBreaks, lineBreaks, aligned, convertAlignment}
 use Rattle.spec.specs.Laws.Symbols.{drop-step, head-drop}
-use Rattle.symbols.specs.Parts.{part, length-part, whole-part}
+use Rattle.text_symbols.specs.Parts.{part, length-part, whole-part}
 use Rattle.text.specs.Writer.{Regions, Appended, appended-more}
-use Rattle.symbols.specs.Places.{before, before-all, before-next}
+use Rattle.text_symbols.specs.Places.{before, before-all, before-next}
 use Rattle.text.specs.Filling.{Filling, filling-more, filling-source, filling-symbol}
-use Rattle.symbols.specs.declared.Span.{Span}
-use Rattle.layout.specs.Breaks.{breakAt, piece, lined, lined-all, lines-broken}
-use Rattle.layout.specs.Lines.{Trimmed, trim-broken}
+use Rattle.text_symbols.specs.declared.Span.{Span}
+use Rattle.layout.specs.Breaks.{breakAt, piece, lined, lined-all, lines-with-breaks}
+use Rattle.layout.specs.Lines.{Trimmed, trim-with-breaks}
 
 -- ---- what is written from place i on
 unfoldable pub linedTo : List ℕ → ℕ → ℕ → List ℕ
@@ -39,7 +39,7 @@ pub lined-whole : (s : List ℕ) (n : ℕ) → length s ≡ n → linedTo s n 0 
 unfolding linedTo
 lined-whole s n l =
     let e : n - 0 ≡ length s = omega arith in
-    ap (λ k. lined k 0 s) e ∙ lined-all 0 s ∙ sym (lines-broken s)
+    ap (λ k. lined k 0 s) e ∙ lined-all 0 s ∙ sym (lines-with-breaks s)
 
 -- ---- a line break at a place
 pub break-is :
@@ -105,7 +105,7 @@ aligned-by {w} {w₁} {w₂} {w₃} {from} {n} {to} {a} {b} {r} {span} trimmed s
     let s = part from n w in
     let t : Trimmed s span = subst (λ u. Trimmed u span) (whole-part from n w) trimmed in
     let e : linedTo (part from n w₁) (span .end) (span .start) ≡ trim (lineBreaks s) =
-    ap (λ u. linedTo u (span .end) (span .start)) same ∙ sym (ap trim (lines-broken s) ∙ trim-broken s t)
+    ap (λ u. linedTo u (span .end) (span .start)) same ∙ sym (ap trim (lines-with-breaks s) ∙ trim-with-breaks s t)
     in
     record {
       appended = appended-more (appended-more opens (subst (Appended w₁ w₂ to 8192 a b) e lines)) closes;

@@ -1,7 +1,7 @@
 -- Line breaks, symbol by symbol: each symbol is written, and a backslash that breaks a line once more.
---     broken        what is written for a text, with the symbol before it
---     lined         the same for its first k symbols
---     lines-broken  it is what the definition's replacement and its last break come to
+--     withBreaks         what is written for a text, with the symbol before it
+--     lined              the same for its first k symbols
+--     lines-with-breaks  it is what the definition's replacement and its last break come to
 -- Assumes nothing.
 use mathlib.Core.Path.{_≡_, refl, sym, ap, _∙_}
 use mathlib.Core.Bool.{Bool, true, false, cond, _&&_, _||_, and-comm, or-false, false≢true}
@@ -27,17 +27,17 @@ breakAt s i = breaks (getD (0 ∷ s) i 0) (getD s i 0) (drop (i + 1) s)
 abbrev pub piece : ℕ → Bool → List ℕ
 piece x twice = x ∷ cond twice (x ∷ []) []
 
-unfoldable pub broken : ℕ → List ℕ → List ℕ
-broken before [] = []
-broken before (x ∷ s) = piece x (breaks before x s) ++ broken x s
+unfoldable pub withBreaks : ℕ → List ℕ → List ℕ
+withBreaks before [] = []
+withBreaks before (x ∷ s) = piece x (breaks before x s) ++ withBreaks x s
 
 unfoldable pub lined : ℕ → ℕ → List ℕ → List ℕ
 lined zero before s = []
 lined (suc k) before [] = []
 lined (suc k) before (x ∷ s) = piece x (breaks before x s) ++ lined k x s
 
-pub lined-all : (before : ℕ) (s : List ℕ) → lined (length s) before s ≡ broken before s
-unfolding lined broken
+pub lined-all : (before : ℕ) (s : List ℕ) → lined (length s) before s ≡ withBreaks before s
+unfolding lined withBreaks
 lined-all before [] = refl
 lined-all before (x ∷ s) = ap (λ t. piece x (breaks before x s) ++ t) (lined-all x s)
 
@@ -160,8 +160,8 @@ last-break s = ap lastBreak (sym (reverse-reverse s)) ∙ go (reverse s) ∙ ap 
         ap lastBreak (reverseAux-eq r (y ∷ x ∷ [])) ∙ last-two y x (reverse r)
         ∙ sym (ap (lastly 0) (reverseAux-eq r (y ∷ x ∷ [])) ∙ lastly-two 0 y x (reverse r))
 
-lastly-inner : (before : ℕ) (s : List ℕ) → lastly before (inner before s) ≡ broken before s
-unfolding lastly inner broken
+lastly-inner : (before : ℕ) (s : List ℕ) → lastly before (inner before s) ≡ withBreaks before s
+unfolding lastly inner withBreaks
 lastly-inner before [] = refl
 lastly-inner before (x ∷ []) = ap (λ t. lastly before (piece x t ++ [])) (never (is "\\" x) (is " " before)) ∙ go (is "\\" x) (is " " before)
   where
@@ -178,10 +178,10 @@ lastly-inner before (x ∷ y ∷ s) = go (inLine before x (y ∷ s)) refl (lastl
     ahead : breaks before x (y ∷ s) ≡ inLine before x (y ∷ s)
     ahead = ap (λ d. is "\\" x && (is " " before && d)) (or-false (is "\n" y))
 
-    go : (t : Bool) → inLine before x (y ∷ s) ≡ t → lastly x (inner x (y ∷ s)) ≡ broken x (y ∷ s) → lastly before (inner before (x ∷ y ∷ s)) ≡ broken before (x ∷ y ∷ s)
-    go true e rest = ap (λ t. lastly before (piece x t ++ inner x (y ∷ s))) e ∙ ap (λ l. x ∷ x ∷ l) rest ∙ ap (λ t. piece x t ++ broken x (y ∷ s)) (sym (ahead ∙ e))
-    go false e rest = ap (λ t. lastly before (piece x t ++ inner x (y ∷ s))) e ∙ ap (λ l. x ∷ l) rest ∙ ap (λ t. piece x t ++ broken x (y ∷ s)) (sym (ahead ∙ e))
+    go : (t : Bool) → inLine before x (y ∷ s) ≡ t → lastly x (inner x (y ∷ s)) ≡ withBreaks x (y ∷ s) → lastly before (inner before (x ∷ y ∷ s)) ≡ withBreaks before (x ∷ y ∷ s)
+    go true e rest = ap (λ t. lastly before (piece x t ++ inner x (y ∷ s))) e ∙ ap (λ l. x ∷ x ∷ l) rest ∙ ap (λ t. piece x t ++ withBreaks x (y ∷ s)) (sym (ahead ∙ e))
+    go false e rest = ap (λ t. lastly before (piece x t ++ inner x (y ∷ s))) e ∙ ap (λ l. x ∷ l) rest ∙ ap (λ t. piece x t ++ withBreaks x (y ∷ s)) (sym (ahead ∙ e))
 
-pub lines-broken : (s : List ℕ) → lineBreaks s ≡ broken 0 s
+pub lines-with-breaks : (s : List ℕ) → lineBreaks s ≡ withBreaks 0 s
 unfolding replace
-lines-broken s = ap lastBreak (swap-inner (length s) 0 0 s (omega arith) refl) ∙ last-break (inner 0 s) ∙ lastly-inner 0 s
+lines-with-breaks s = ap lastBreak (swap-inner (length s) 0 0 s (omega arith) refl) ∙ last-break (inner 0 s) ∙ lastly-inner 0 s

@@ -11,11 +11,11 @@ use native.Mathlib.Omega.{arith}
 use lib.ListN.{length, getD, drop, length-take, length-drop}
 use borrow.Author.Tests.{eqb-true}
 use Rattle.spec.specs.Symbols.{is, blank, head, empty, dropWhile, dropWhileEnd, trim}
-use Rattle.symbols.specs.Places.{before, Ahead, Behind}
-use Rattle.symbols.specs.Runs.{behind-end}
+use Rattle.text_symbols.specs.Places.{before, AheadTo, BackTo}
+use Rattle.text_symbols.specs.Runs.{behind-end}
 use Rattle.spec.specs.Laws.Symbols.{dropWhile-short}
-use Rattle.symbols.specs.declared.Span.{Span}
-use Rattle.layout.specs.Breaks.{breaks, piece, broken, lined}
+use Rattle.text_symbols.specs.declared.Span.{Span}
+use Rattle.layout.specs.Breaks.{breaks, piece, withBreaks, lined}
 
 -- ---- dropping from the end
 module _ (f : ℕ → Bool) where
@@ -69,8 +69,8 @@ pub record Trimmed (s : List ℕ) (r : Span) : Type 0 where
   pub leading : dropWhile blank s ≡ drop (r .start) s
   pub many : length (dropWhileEnd blank (drop (r .start) s)) ≡ r .end - r .start
 
-pub trimmed-by : {s : List ℕ} {start k : ℕ} → Ahead s 0 start (dropWhile blank s)
-    → Behind (drop start s) (length s - start) k (dropWhile blank (before (drop start s) (length s - start)))
+pub trimmed-by : {s : List ℕ} {start k : ℕ} → AheadTo s 0 start (dropWhile blank s)
+    → BackTo (drop start s) (length s - start) k (dropWhile blank (before (drop start s) (length s - start)))
     → Trimmed s (record { start = start; end = start + k })
 trimmed-by {s} {start} {k} a b =
     let w = a .within in let t = b .to in let d = length-drop start s in let l = length-take k (drop start s) in
@@ -85,11 +85,11 @@ blank-single before x s e = go (is "\\" x) refl
     go true f = absurd (false≢true (ap blank (sym (eqb-true x 92 f)) ∙ e))
     go false f = refl
 
-broken-lead : (before : ℕ) (s : List ℕ) (a : ℕ) → a ≤ length s → dropWhile blank s ≡ drop a s → dropWhile blank (broken before s) ≡ broken (getD (before ∷ s) a 0) (drop a s)
-unfolding broken
-broken-lead before [] zero h e = refl
-broken-lead before [] (suc a) h e = absurd (not-suc-le-zero h)
-broken-lead before (x ∷ s) a h e = go (blank x) refl a h e (broken-lead x s)
+with-breaks-lead : (before : ℕ) (s : List ℕ) (a : ℕ) → a ≤ length s → dropWhile blank s ≡ drop a s → dropWhile blank (withBreaks before s) ≡ withBreaks (getD (before ∷ s) a 0) (drop a s)
+unfolding withBreaks
+with-breaks-lead before [] zero h e = refl
+with-breaks-lead before [] (suc a) h e = absurd (not-suc-le-zero h)
+with-breaks-lead before (x ∷ s) a h e = go (blank x) refl a h e (with-breaks-lead x s)
   where
     kept-from : (a : ℕ) → a ≤ suc (length s) → blank x ≡ false → dropWhile blank (x ∷ s) ≡ drop a (x ∷ s) → a ≡ 0
     kept-from a h b e =
@@ -98,60 +98,60 @@ broken-lead before (x ∷ s) a h e = go (blank x) refl a h e (broken-lead x s)
         omega arith
 
     go : (t : Bool) → blank x ≡ t → (a : ℕ) → a ≤ suc (length s) → dropWhile blank (x ∷ s) ≡ drop a (x ∷ s)
-        → ((a : ℕ) → a ≤ length s → dropWhile blank s ≡ drop a s → dropWhile blank (broken x s) ≡ broken (getD (x ∷ s) a 0) (drop a s))
-        → dropWhile blank (broken before (x ∷ s)) ≡ broken (getD (before ∷ x ∷ s) a 0) (drop a (x ∷ s))
+        → ((a : ℕ) → a ≤ length s → dropWhile blank s ≡ drop a s → dropWhile blank (withBreaks x s) ≡ withBreaks (getD (x ∷ s) a 0) (drop a s))
+        → dropWhile blank (withBreaks before (x ∷ s)) ≡ withBreaks (getD (before ∷ x ∷ s) a 0) (drop a (x ∷ s))
     go true b zero h e rest =
         let d : dropWhile blank s ≡ x ∷ s = sym (while-past blank x s b) ∙ e in
         let l = ap length d in let w = dropWhile-short blank s in absurd (omega arith)
     go true b (suc a) h e rest =
-        ap (λ t. dropWhile blank (piece x t ++ broken x s)) (blank-single before x s b)
-        ∙ while-past blank x (broken x s) b
+        ap (λ t. dropWhile blank (piece x t ++ withBreaks x s)) (blank-single before x s b)
+        ∙ while-past blank x (withBreaks x s) b
         ∙ rest a (omega arith) (sym (while-past blank x s b) ∙ e)
     go false b a h e rest =
         let z = kept-from a h b e in
-        while-stop blank x (cond (breaks before x s) (x ∷ []) [] ++ broken x s) b ∙ ap (λ k. broken (getD (before ∷ x ∷ s) k 0) (drop k (x ∷ s))) (sym z)
+        while-stop blank x (cond (breaks before x s) (x ∷ []) [] ++ withBreaks x s) b ∙ ap (λ k. withBreaks (getD (before ∷ x ∷ s) k 0) (drop k (x ∷ s))) (sym z)
 
 lined-some : (k before x : ℕ) (s : List ℕ) → (r : List ℕ) → lined (suc k) before (x ∷ s) ≡ r → (y : ℕ) → endWith blank y r ≡ y ∷ r
 unfolding lined
 lined-some k before x s [] e y = let l = ap length e in absurd (omega arith)
 lined-some k before x s (z ∷ r) e y = refl
 
-broken-end : (before : ℕ) (s : List ℕ) → dropEnd blank (broken before s) ≡ lined (length (dropEnd blank s)) before s
-unfolding broken lined
-broken-end before [] = refl
-broken-end before (x ∷ s) = go (blank x) refl (broken-end x s)
+with-breaks-end : (before : ℕ) (s : List ℕ) → dropEnd blank (withBreaks before s) ≡ lined (length (dropEnd blank s)) before s
+unfolding withBreaks lined
+with-breaks-end before [] = refl
+with-breaks-end before (x ∷ s) = go (blank x) refl (with-breaks-end x s)
   where
     -- a symbol that is not blank, once or twice
-    solid : (t : Bool) → blank x ≡ false → dropEnd blank (broken x s) ≡ lined (length (dropEnd blank s)) x s
-        → dropEnd blank (piece x t ++ broken x s) ≡ piece x t ++ lined (length (dropEnd blank s)) x s
+    solid : (t : Bool) → blank x ≡ false → dropEnd blank (withBreaks x s) ≡ lined (length (dropEnd blank s)) x s
+        → dropEnd blank (piece x t ++ withBreaks x s) ≡ piece x t ++ lined (length (dropEnd blank s)) x s
     solid true b rest =
-        ap (endWith blank x) (end-kept blank x (dropEnd blank (broken x s)) b) ∙ ap (λ l. x ∷ x ∷ l) rest
-    solid false b rest = end-kept blank x (dropEnd blank (broken x s)) b ∙ ap (λ l. x ∷ l) rest
+        ap (endWith blank x) (end-kept blank x (dropEnd blank (withBreaks x s)) b) ∙ ap (λ l. x ∷ x ∷ l) rest
+    solid false b rest = end-kept blank x (dropEnd blank (withBreaks x s)) b ∙ ap (λ l. x ∷ l) rest
 
     -- a blank goes with what stands behind it
-    soft : (s : List ℕ) (d : List ℕ) → dropEnd blank s ≡ d → blank x ≡ true → dropEnd blank (broken x s) ≡ lined (length d) x s
-        → endWith blank x (dropEnd blank (broken x s)) ≡ lined (length (endWith blank x d)) before (x ∷ s)
+    soft : (s : List ℕ) (d : List ℕ) → dropEnd blank s ≡ d → blank x ≡ true → dropEnd blank (withBreaks x s) ≡ lined (length d) x s
+        → endWith blank x (dropEnd blank (withBreaks x s)) ≡ lined (length (endWith blank x d)) before (x ∷ s)
     soft s [] e b rest =
         ap (endWith blank x) rest ∙ end-none blank x b ∙ sym (ap (λ (d : List ℕ). lined (length d) before (x ∷ s)) (end-none blank x b))
     soft [] (y ∷ d) e b rest = let l = ap length e in absurd (omega arith)
     soft (z ∷ s) (y ∷ d) e b rest =
-        lined-some (length d) x z s (dropEnd blank (broken x (z ∷ s))) (sym rest) x
+        lined-some (length d) x z s (dropEnd blank (withBreaks x (z ∷ s))) (sym rest) x
         ∙ ap (λ l. x ∷ l) rest
         ∙ ap (λ t. piece x t ++ lined (suc (length d)) x (z ∷ s)) (sym (blank-single before x (z ∷ s) b))
 
-    go : (t : Bool) → blank x ≡ t → dropEnd blank (broken x s) ≡ lined (length (dropEnd blank s)) x s
-        → dropEnd blank (broken before (x ∷ s)) ≡ lined (length (endWith blank x (dropEnd blank s))) before (x ∷ s)
-    go true b rest = ap (λ t. dropEnd blank (piece x t ++ broken x s)) (blank-single before x s b) ∙ soft s (dropEnd blank s) refl b rest
+    go : (t : Bool) → blank x ≡ t → dropEnd blank (withBreaks x s) ≡ lined (length (dropEnd blank s)) x s
+        → dropEnd blank (withBreaks before (x ∷ s)) ≡ lined (length (endWith blank x (dropEnd blank s))) before (x ∷ s)
+    go true b rest = ap (λ t. dropEnd blank (piece x t ++ withBreaks x s)) (blank-single before x s b) ∙ soft s (dropEnd blank s) refl b rest
     go false b rest =
         solid (breaks before x s) b rest
         ∙ ap (λ (d : List ℕ). lined (length d) before (x ∷ s)) (sym (end-kept blank x (dropEnd blank s) b))
 
 -- trimming what is read trims what is written
-pub trim-broken : (s : List ℕ) {r : Span} → Trimmed s r → trim (broken 0 s) ≡ lined (r .end - r .start) (getD (0 ∷ s) (r .start) 0) (drop (r .start) s)
-trim-broken s {r} t =
+pub trim-with-breaks : (s : List ℕ) {r : Span} → Trimmed s r → trim (withBreaks 0 s) ≡ lined (r .end - r .start) (getD (0 ∷ s) (r .start) 0) (drop (r .start) s)
+trim-with-breaks s {r} t =
     let o = t .order in let i = t .inside in
     let b = getD (0 ∷ s) (r .start) 0 in
     let u = drop (r .start) s in
-    ap (dropWhileEnd blank) (broken-lead 0 s (r .start) (omega arith) (t .leading))
-    ∙ drop-end blank (broken b u) ∙ broken-end b u
+    ap (dropWhileEnd blank) (with-breaks-lead 0 s (r .start) (omega arith) (t .leading))
+    ∙ drop-end blank (withBreaks b u) ∙ with-breaks-end b u
     ∙ ap (λ k. lined k b u) (sym (ap length (drop-end blank u)) ∙ t .many)

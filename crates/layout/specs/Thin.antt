@@ -14,24 +14,24 @@ use borrow.Author.Tests.{ne-eqb, lt-ltb}
 use Rattle.spec.specs.Symbols.{bytes, is, letter, head, empty, until, dropWhile, starts, find}
 use Rattle.spec.specs.Finish.{atomCommands, oneOf, spacingCommand, spacing, gapFrom, gap, thinSpaces, dropThinSpaceAfterCommands}
 use Rattle.spec.specs.Laws.Symbols.{drop-step, starts-long, reverse-drop}
-use Rattle.symbols.specs.Parts.{part, length-part, rest-part, getD-before, sub-part}
-use Rattle.symbols.specs.Places.{before, before-all, before-step, length-before, Ahead, Behind, before-next, head-before}
-use Rattle.search.specs.Search.{until-drop}
+use Rattle.text_symbols.specs.Parts.{part, length-part, rest-part, getD-before, sub-part}
+use Rattle.text_symbols.specs.Places.{before, before-all, before-step, length-before, AheadTo, BackTo, before-next, head-before}
+use Rattle.text_search.specs.Search.{until-drop}
 use Rattle.text.specs.Writer.{Regions, Appended, appended-part}
-use Rattle.text.specs.Sweep.{rest}
+use Rattle.text.specs.Sweep.{restFrom}
 use Rattle.text.specs.Filling.{Filling, filling-more, filling-symbol}
-use Rattle.search.specs.declared.Found.{Found}
-use Rattle.search.specs.declared.Found.the-variants.{Nothing}
+use Rattle.text_search.specs.declared.Found.{Found}
+use Rattle.text_search.specs.declared.Found.the-variants.{Nothing}
 
 -- ---- a command with its own spacing
-abbrev pub argument : List ℕ → Bool
-argument tail = empty tail || (is "{" (head tail) && is "}" (head (reverse tail)))
+abbrev pub isArgument : List ℕ → Bool
+isArgument tail = empty tail || (is "{" (head tail) && is "}" (head (reverse tail)))
 
-pub argument-none : (s : List ℕ) → length s ≡ 0 → argument s ≡ true
+pub argument-none : (s : List ℕ) → length s ≡ 0 → isArgument s ≡ true
 argument-none [] e = refl
 argument-none (x ∷ s) e = absurd (omega arith)
 
-pub argument-some : (s : List ℕ) → (length s ≡ 0 → ⊥) → is "{" (getD s 0 0) && is "}" (getD s (length s - 1) 0) ≡ argument s
+pub argument-some : (s : List ℕ) → (length s ≡ 0 → ⊥) → is "{" (getD s 0 0) && is "}" (getD s (length s - 1) 0) ≡ isArgument s
 argument-some [] e = absurd (e refl)
 argument-some (x ∷ s) e =
     ap (λ y. is "{" x && is "}" y)
@@ -44,17 +44,17 @@ word-some s zero h = refl
 word-some [] (suc end) h = absurd (not-suc-le-zero h)
 word-some (x ∷ s) (suc end) h = sym (lt-ltb 0 (suc end) (omega arith))
 
-pub spacing-is : {s : List ℕ} {end : ℕ} → Ahead s 0 end (dropWhile letter s) → ltb 0 end && (argument (drop end s) && not (oneOf atomCommands (take end s))) ≡ spacing s
+pub spacing-is : {s : List ℕ} {end : ℕ} → AheadTo s 0 end (dropWhile letter s) → ltb 0 end && (isArgument (drop end s) && not (oneOf atomCommands (take end s))) ≡ spacing s
 spacing-is {s} {end} l =
     let word : until s (dropWhile letter s) ≡ take end s = ap (until s) (sym (l .left)) ∙ until-drop s end (l .within) in
-    sym (ap₂ spacingCommand word (sym (l .left)) ∙ ap (λ b. b && (argument (drop end s) && not (oneOf atomCommands (take end s)))) (word-some s end (l .within)))
+    sym (ap₂ spacingCommand word (sym (l .left)) ∙ ap (λ b. b && (isArgument (drop end s) && not (oneOf atomCommands (take end s)))) (word-some s end (l .within)))
 
 -- ---- the space that is kept or dropped
 abbrev pub gapIf : Bool → List ℕ
 gapIf keeps = cond keeps (bytes "\\;") []
 
 -- the place behind the last backslash, or the start
-module _ {s : List ℕ} {r : ℕ} (last : Behind s (length s) r (dropWhile (λ x. not (is "\\" x)) (before s (length s)))) where
+module _ {s : List ℕ} {r : ℕ} (last : BackTo s (length s) r (dropWhile (λ x. not (is "\\" x)) (before s (length s)))) where
   back : dropWhile (λ x. not (is "\\" x)) (reverse s) ≡ before s r
   back = ap (dropWhile (λ x. not (is "\\" x))) (sym (before-all s)) ∙ sym (last .left)
 
@@ -125,7 +125,6 @@ module _ (s : List ℕ) (start i : ℕ) (order : start ≤ i) (within : i < leng
       ∙ thin-symbol p (getD s i 0) (drop (i + 1) s) (ap (starts (bytes "\\;")) (sym (drop-step s i within)) ∙ e)
       ∙ ap (λ q. getD s i 0 ∷ thinSpaces 0 q (drop (i + 1) s)) (sym one)
 
-
 -- ---- a turn of the loop
 module _
     {w₀ w : List ℕ} {from n to cap count₀ count start i : ℕ} {whole : List ℕ}
@@ -135,13 +134,13 @@ module _
     inside-i : i < length (part from n w₀)
     inside-i = let l = length-part from n w₀ (regions .source) in omega arith
 
-    here : rest from n i w ≡ drop i (part from n w₀)
+    here : restFrom from n i w ≡ drop i (part from n w₀)
     here = rest-part from n i w ∙ ap (drop i) (appended-part (filling .appended) from n (regions .apart))
 
-    module _ {b : Bool} (test : b ≡ starts (bytes "\\;") (rest from n i w)) where
+    module _ {b : Bool} (test : b ≡ starts (bytes "\\;") (restFrom from n i w)) where
       pub gap-fits : b ≡ true → i + 2 ≤ n
       gap-fits t =
-          let l = starts-long (bytes "\\;") (rest from n i w) (sym test ∙ t) in
+          let l = starts-long (bytes "\\;") (restFrom from n i w) (sym test ∙ t) in
           let m = length-take (from + n - (from + i)) (drop (from + i) w) in
           omega arith
 

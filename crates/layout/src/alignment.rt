@@ -1,8 +1,8 @@
 // Line breaks and alignment. A line break is a backslash behind a space, before a newline or at the very end: it is doubled. A text with
 // `&` is trimmed and set in an environment. Since blanks are written as they are, trimming what is read trims what is written.
-use symbols::Class;
-use symbols::Span;
 use text::Progress;
+use text_symbols::Class;
+use text_symbols::Span;
 ghost use Prim.Native.Nat.{_≤_, _<_};
 ghost use mathlib.Core.Path.{_≡_};
 ghost use lib.ListN.{length};
@@ -18,7 +18,7 @@ ghost use Rattle.layout.specs.Aligned.{Lines, Aligned};
 fn has_alignment(s: &[u8]) -> bool
     ensures { λ r. ⌜ r ≡ hasAlignment (now (s .entry)) ⌝ }
 {
-    search::contains(s, b"&")
+    text_search::contains(s, b"&")
 }
 
 fn ends_in_break(s: &[u8]) -> bool
@@ -34,7 +34,7 @@ fn ends_in_break(s: &[u8]) -> bool
 fn has_line_breaks(s: &[u8]) -> bool
     ensures { λ r. ⌜ r ≡ hasLineBreaks (now (s .entry)) ⌝ }
 {
-    search::contains(s, b" \\\n") | ends_in_break(s)
+    text_search::contains(s, b" \\\n") | ends_in_break(s)
 }
 
 // Whether the symbol at a place is a line break.
@@ -44,8 +44,8 @@ fn is_break(s: &[u8], i: usize) -> bool
 {
     let next = i + 1;
     (s[i] == b'\\')
-        & ((search::before(s, i) == b' ')
-            & ((search::symbol(s, next) == b'\n') | (s.len() == next)))
+        & ((text_search::symbol_before(s, i) == b' ')
+            & ((text_search::symbol(s, next) == b'\n') | (s.len() == next)))
 }
 
 // Appends a symbol, once or twice.
@@ -90,8 +90,8 @@ fn put_lines(
 fn trimmed(s: &[u8]) -> Span
     ensures { λ r. ⌜ Trimmed (now (s .entry)) r ⌝ }
 {
-    let start = symbols::run_end(s, 0, Class::Blank);
-    let end = start + symbols::run_start(&s[start..], s.len() - start, Class::Blank);
+    let start = text_symbols::run_end(s, 0, Class::Blank);
+    let end = start + text_symbols::run_start(&s[start..], s.len() - start, Class::Blank);
     Span { start, end }
 }
 

@@ -1,32 +1,32 @@
 // A thin space `\;` is dropped behind a control word, which carries its own spacing. Whether one stands there is told by the last
 // backslash since the thin space before; what was written since then is what was read.
-use search::Found;
-use symbols::Class;
 use text::Due;
 use text::Progress;
+use text_search::Found;
+use text_symbols::Class;
 ghost use mathlib.Core.Path.{_≡_};
 ghost use mathlib.Core.List.{reverse};
 ghost use Rattle.spec.specs.Symbols.{bytes, starts};
 ghost use Rattle.spec.specs.Result.{stage};
 ghost use Rattle.spec.specs.Finish.{atomCommands, oneOf, spacing, gap, dropThinSpaceAfterCommands};
-ghost use Rattle.symbols.specs.Parts.{part};
+ghost use Rattle.text_symbols.specs.Parts.{part};
 ghost use Rattle.text.specs.Writer.{Room, Appended, Regions};
 ghost use Rattle.text.specs.Stage.{Ready, Staged};
-ghost use Rattle.layout.specs.Thin.{argument, gapIf};
+ghost use Rattle.layout.specs.Thin.{isArgument, gapIf};
 
 // A command that sets an atom: a word behind it still wants a space.
 fn is_atom_command(word: &[u8]) -> bool
     ensures { λ r. ⌜ r ≡ oneOf atomCommands (now (word .entry)) ⌝ }
 {
-    search::is_same(b"text", word)
-        | (search::is_same(b"mathrm", word)
-            | (search::is_same(b"operatorname", word)
-                | (search::is_same(b"mathbf", word) | search::is_same(b"mathit", word))))
+    text_search::is_same(b"text", word)
+        | (text_search::is_same(b"mathrm", word)
+            | (text_search::is_same(b"operatorname", word)
+                | (text_search::is_same(b"mathbf", word) | text_search::is_same(b"mathit", word))))
 }
 
 // What stands behind a control word: nothing, or an argument in braces.
 fn is_argument(tail: &[u8]) -> bool
-    ensures { λ r. ⌜ r ≡ argument (now (tail .entry)) ⌝ }
+    ensures { λ r. ⌜ r ≡ isArgument (now (tail .entry)) ⌝ }
 {
     let n = tail.len();
     if n == 0 {
@@ -39,7 +39,7 @@ fn is_argument(tail: &[u8]) -> bool
 fn is_spacing(s: &[u8]) -> bool
     ensures { λ r. ⌜ r ≡ spacing (now (s .entry)) ⌝ }
 {
-    let end = symbols::run_end(s, 0, Class::Letter);
+    let end = text_symbols::run_end(s, 0, Class::Letter);
     (0 < end) & (is_argument(&s[end..]) & !is_atom_command(&s[0..end]))
 }
 
@@ -47,7 +47,7 @@ fn is_spacing(s: &[u8]) -> bool
 fn keeps_gap(s: &[u8]) -> bool
     ensures { λ r. ⌜ gap (reverse (now (s .entry))) ≡ gapIf r ⌝ }
 {
-    let behind = symbols::run_start(s, s.len(), Class::Except(b'\\'));
+    let behind = text_symbols::run_start(s, s.len(), Class::Except(b'\\'));
     if behind == 0 {
         return true;
     }
@@ -57,7 +57,7 @@ fn keeps_gap(s: &[u8]) -> bool
 fn is_gap(s: &[u8]) -> bool
     ensures { λ r. ⌜ r ≡ starts (bytes "\\;") (now (s .entry)) ⌝ }
 {
-    search::starts_with(s, b"\\;")
+    text_search::starts_with(s, b"\\;")
 }
 
 // Appends a thin space, or nothing.

@@ -19,13 +19,13 @@ use Rattle.spec.specs.Result.{passed, refused, mostSymbols, grown, stage}
 use Rattle.spec.specs.Laws.Symbols.{head-drop, past-drop}
 use Rattle.spec.specs.Laws.Sweep.{Waits, sweep-absent, reached-absent}
 use Rattle.spec.specs.Laws.Absent.{no-bare, calling-waits}
-use Rattle.symbols.specs.Parts.{part, length-part, sub-part, whole-part}
+use Rattle.text_symbols.specs.Parts.{part, length-part, sub-part, whole-part}
 use Rattle.text.specs.Stage.{grown-short}
 use Rattle.text.specs.Writer.{Appended}
-use Rattle.text.specs.Sweep.{Sweeping, rest, symbols-read}
-use Rattle.search.specs.declared.Found.{Found}
-use Rattle.search.specs.declared.Found.the-variants.{At, Nothing}
-use Rattle.delimiters.specs.Delimiters.{Called, innerAt, call-read, call-fits}
+use Rattle.text.specs.Sweep.{Sweeping, restFrom, symbols-read}
+use Rattle.text_search.specs.declared.Found.{Found}
+use Rattle.text_search.specs.declared.Found.the-variants.{At, Nothing}
+use Rattle.call_rewriting.specs.Delimiters.{Called, innerAt, call-read, call-fits}
 use Rattle.lr.specs.Reached.{comes, comes-turn}
 use Rattle.lr.specs.declared.Ended.{Ended}
 use Rattle.lr.specs.declared.Ended.the-variants.{Length, Bare}
@@ -146,7 +146,7 @@ lr-absent s short absent =
 module _
     {w₀ w : List ℕ} {from n to cap count₀ count i : ℕ}
     (sweeping : Sweeping lr w₀ w from n to cap count₀ count i) (more : i < n)
-    {r : Found} (called : Called lrName (rest from n i w) r)
+    {r : Found} (called : Called lrName (restFrom from n i w) r)
   where
     abbrev source : List ℕ
     source = part from n w₀
@@ -154,8 +154,8 @@ module _
     inside-i : i < length source
     inside-i = let l = length-part from n w₀ (sweeping .regions .source) in omega arith
 
-    pub no-call : r ≡ Nothing → comes bareDelimiter lr source i ≡ comes bareDelimiter lr source (i + 1)
-    no-call e =
+    pub comes-past-no-call : r ≡ Nothing → comes bareDelimiter lr source i ≡ comes bareDelimiter lr source (i + 1)
+    comes-past-no-call e =
         let none-here : callAt lrName (drop i source) ≡ none = call-read sweeping more called ∙ ap (innerAt lrName (drop i source)) e in
         let next : i + 1 + 0 ≡ i + 1 = omega arith in
         comes-turn bareDelimiter lr source i inside-i (ap (rewritten lrName latexLr (drop i source)) none-here)

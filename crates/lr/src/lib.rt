@@ -1,17 +1,17 @@
 // The stage `lr`. Of `lr(`..`)` the first symbol inside says which delimiters are written, and the last is dropped unread. A delimiter
 // that stands alone inside is number 8.
-use search::Found;
 use text::Due;
 use text::Progress;
 use text::Refusal;
+use text_search::Found;
 ghost use Prim.Native.Nat.{_+_, _≤_, _<_};
 ghost use mathlib.Core.Path.{_≡_};
 ghost use lib.ListN.{length};
 ghost use Rattle.spec.specs.Finish.{delimiters, convertLr};
-ghost use Rattle.symbols.specs.Parts.{part};
+ghost use Rattle.text_symbols.specs.Parts.{part};
 ghost use Rattle.text.specs.Writer.{Room, Appended, Apart, Regions};
 ghost use Rattle.text.specs.Stage.{Ready, Staged};
-ghost use Rattle.delimiters.specs.Delimiters.{Called};
+ghost use Rattle.call_rewriting.specs.Delimiters.{Called};
 ghost use Rattle.lr.specs.Lr.{lrName, isDelimiter, sizedBy, EndedBy};
 
 // What the loop comes to: the finished text's length, or a bare delimiter.
@@ -25,7 +25,7 @@ fn lr_at(s: &[u8]) -> Found
     requires { ⌜ length (now s) ≤ 16384 ⌝ }
     ensures { λ r. ⌜ Called lrName (now (s .entry)) r ⌝ }
 {
-    delimiters::call_at(s, b"lr(")
+    call_rewriting::call_at(s, b"lr(")
 }
 
 fn is_delimiter(b: u8) -> bool
@@ -43,10 +43,18 @@ fn put_sized(work: &mut [u8], to: usize, count: usize, first: u8, inside: usize,
 {
     let middle = text::saturating_sub(k, 2);
     if first == b'(' {
-        return delimiters::put_call(work, to, count, b"\\left(", inside + 1, middle, b"\\right)");
+        return call_rewriting::put_call(
+            work,
+            to,
+            count,
+            b"\\left(",
+            inside + 1,
+            middle,
+            b"\\right)",
+        );
     }
     if first == b'|' {
-        return delimiters::put_call(
+        return call_rewriting::put_call(
             work,
             to,
             count,
@@ -57,10 +65,18 @@ fn put_sized(work: &mut [u8], to: usize, count: usize, first: u8, inside: usize,
         );
     }
     if first == b'[' {
-        return delimiters::put_call(work, to, count, b"\\left[", inside + 1, middle, b"\\right]");
+        return call_rewriting::put_call(
+            work,
+            to,
+            count,
+            b"\\left[",
+            inside + 1,
+            middle,
+            b"\\right]",
+        );
     }
     if first == b'{' {
-        return delimiters::put_call(
+        return call_rewriting::put_call(
             work,
             to,
             count,
@@ -91,7 +107,7 @@ fn rewrite_lr(work: &mut [u8], from: usize, n: usize, to: usize) -> Ended
         let open = i + 3;
         let inside = from + open;
         let close = inside + k;
-        let first = search::symbol(&work[inside..close], 0);
+        let first = text_search::symbol(&work[inside..close], 0);
         if (k == 1) & is_delimiter(first) {
             return Ended::Bare;
         }

@@ -1,5 +1,5 @@
 -- What a caller knows of a call's answer without its formula. Assumes nothing.
---     call-fits    the byte count lies within the output buffer
+--     call-count-fits    the byte count lies within the output buffer
 use mathlib.Core.Path.{_≡_, refl, sym, ap, _∙_}
 use mathlib.Core.Bool.{Bool, true, false, cond}
 use mathlib.Core.List.{List}
@@ -22,11 +22,11 @@ fitting-fits output {n} (passed s) e = go (ltb (length output) (length s)) refl 
     go true t e = absurd (let z : _≡_ {A = ℕ} 0 1 = cc in omega arith)
     go false t e = let same : n ≡ length s = cc in omega (arith, ltb-false (length output) (length s) t)
 
-pub call-fits :
+pub call-count-fits :
     {formula table work output work′ output′ : List ℕ} {display : Bool} {answer : Answer} {n : ℕ}
     → Call formula table display work output (meaning answer) work′ output′
     → answer ≡ Done n
     → n ≤ length output
 unfolding converted
-call-fits {formula} {table} {work} {output} {display = display} c e =
+call-count-fits {formula} {table} {work} {output} {display = display} c e =
     fitting-fits output (admitted formula table work then typstToLatex (c .order) display) (sym (ap meaning e) ∙ c .answers)

@@ -20,7 +20,7 @@ use Rattle.spec.specs.Table.{Definition, definitions, byLength}
 use Rattle.spec.specs.Laws.Table.{by-length-order}
 use Rattle.spec.specs.Laws.Booleans.{or-neither}
 use Rattle.spec.specs.Pipeline.{mostFormula, leastWork, definitionsOr, readable, admitted, typstToLatex, fitting, converted, answerOf, outputAfter, workAfter, Call}
-use Rattle.symbols.specs.Parts.{part, length-part}
+use Rattle.text_symbols.specs.Parts.{part, length-part}
 use Rattle.text.specs.Stage.{shown, Ready, Answered, placed-fits}
 use Rattle.text.specs.declared.Progress.{Progress}
 use Rattle.text.specs.declared.Progress.the-variants.{Text, Refused}
@@ -30,7 +30,7 @@ use Rattle.table.specs.Sound.{refused as isRefused}
 use Rattle.held_laws.specs.Marks.{isMark, hasMark}
 use Rattle.math_conv.specs.declared.Answer.{Answer}
 use Rattle.math_conv.specs.declared.Answer.the-variants.{Done, Refused as RefusedBy}
-use Rattle.stages.specs.Fit.{Fit}
+use Rattle.stages.specs.Fit.{Admissible}
 use Rattle.math_conv.specs.Answer.{meaning, Admits, PutOut}
 use Rattle.stage_laws.specs.Late.{Late, passes, refuses, then-late, stages-late}
 
@@ -95,18 +95,18 @@ unmarked (x ∷ s) e = rw (own (eqb x textMark) refl (eqb x romanMark) refl, any
     own false p true u = absurd (true≢false (sym (ap foreign (eqb-true x romanMark u)) ∙ native-x))
     own false p false u = rw (p, u)
 
-pub admits-fit : {formula table w w′ : List ℕ} {p : Progress} → Admits formula table w w′ p → Fit table (shown p w′)
+pub admits-fit : {formula table w w′ : List ℕ} {p : Progress} → Admits formula table w w′ p → Admissible table (shown p w′)
 admits-fit {formula} {table} {w} a =
-    subst (Fit table) (sym (a .shows))
+    subst (Admissible table) (sym (a .shows))
     (narrow (ltb (length w) leastWork) (ltb mostFormula (length formula)) (any foreign formula) refl (definitions table) refl)
   where
-    no : {k : ℕ} → Fit table (refused k)
+    no : {k : ℕ} → Admissible table (refused k)
     no = record { bare = record { unmarked = λ s e. absurd (differ e) }; sound = λ s e. absurd (differ e) }
       where
         differ : {k : ℕ} {s : List ℕ} → refused k ≡ passed s → ⊥
         differ e = let z : _≡_ {A = ℕ} 0 1 = cc in omega arith
 
-    read : any foreign formula ≡ false → (ds : Option (List Definition)) → definitions table ≡ ds → Fit table (readable formula ds)
+    read : any foreign formula ≡ false → (ds : Option (List Definition)) → definitions table ≡ ds → Admissible table (readable formula ds)
     read f none e = no
     read f (some ds) e =
         record {
@@ -115,7 +115,7 @@ admits-fit {formula} {table} {w} a =
         }
 
     narrow : (b c d : Bool) → any foreign formula ≡ d → (ds : Option (List Definition)) → definitions table ≡ ds
-        → Fit table (elim b as (λ b. Result (List ℕ)) [
+        → Admissible table (elim b as (λ b. Result (List ℕ)) [
           | true ↦ refused 4
           | false ↦ elim c as (λ c. Result (List ℕ)) [ true ↦ refused 2 | false ↦ elim d as (λ d. Result (List ℕ)) [ true ↦ refused 1 | false ↦ readable formula ds ] ]
         ])

@@ -1,8 +1,8 @@
 // Numbers 2, 1 and 3: whether a formula and its table are admitted.
 use super::output::copy_over;
-use symbols::Class;
 use text::Progress;
 use text::Refusal;
+use text_symbols::Class;
 ghost use mathlib.Core.Path.{_≡_};
 ghost use Prim.Native.Nat.{_≤_};
 ghost use lib.ListN.{length};
@@ -31,5 +31,5 @@ pub fn admit(work: &mut [u8], formula: &[u8], table: &[u8]) -> Progress
 fn has_foreign(formula: &[u8]) -> bool
     ensures { λ r. ⌜ r ≡ any foreign (now (formula .entry)) ⌝ }
 {
-    !symbols::all_in(formula, Class::Formula)
+    !text_symbols::all_in(formula, Class::Formula)
 }

@@ -1,7 +1,7 @@
--- The loop over quoted text. The definition keeps what was written last symbol first; the code keeps its end, a `Tail`.
---     ending, grownBy     the end of a text, and after one symbol more
---     Ends                a tail is the end of a text
---     Quoting             the loop stands at place i
+-- The loop over quoted text. The definition keeps what was written last symbol first; the code keeps its end, a `TextEnd`.
+--     endIn, grownBy     the end of a text, and after one symbol more
+--     Ends               a tail is the end of a text
+--     Quoting            the loop stands at place i
 -- Assumes nothing.
 use mathlib.Core.Path.{_≡_, refl, sym, ap, ap₂, _∙_, subst}
 use mathlib.Core.Bool.{Bool, true, false, cond, _||_}
@@ -14,31 +14,31 @@ use lib.Seq.{drop-drop}
 use Rattle.spec.specs.Symbols.{bytes, is, alnum, blank, head, dropWhile, trimStart}
 use Rattle.spec.specs.Quotes.{gapBefore, openQuote, gapBehind, closeQuote, skipped, quotes, convertTextQuotes}
 use Rattle.spec.specs.Laws.Symbols.{drop-step, head-drop, reverse-drop}
-use Rattle.symbols.specs.Places.{Ahead}
-use Rattle.symbols.specs.Runs.{ahead-length}
+use Rattle.text_symbols.specs.Places.{AheadTo}
+use Rattle.text_symbols.specs.Runs.{ahead-length}
 use Rattle.text.specs.Writer.{Appended}
 use Rattle.text.specs.Written.{Wrote, Written, wrote-none, wrote-more, wrote-less}
-use Rattle.quotes.specs.declared.Tail.{Tail}
+use Rattle.quotes.specs.declared.TextEnd.{TextEnd}
 use Rattle.quotes.specs.declared.After.{After}
 
-abbrev pub ending : ℕ → Tail
-ending x = record { last = x; blanks = 0 }
+abbrev pub endIn : ℕ → TextEnd
+endIn x = record { last = x; blanks = 0 }
 
-abbrev pub grownBy : Tail → ℕ → Tail
-grownBy t x = cond (blank x) (record { last = t .last; blanks = t .blanks + 1 }) (ending x)
+abbrev pub grownBy : TextEnd → ℕ → TextEnd
+grownBy t x = cond (blank x) (record { last = t .last; blanks = t .blanks + 1 }) (endIn x)
 
-abbrev pub gapAt : Tail → Bool
+abbrev pub gapAt : TextEnd → Bool
 gapAt t = alnum (t .last) || is "}" (t .last)
 
 -- the symbols that stay before an opening quote, and what is appended
-abbrev pub kept : ℕ → Tail → ℕ
-kept count t = cond (gapAt t) (count - t .blanks) count
+abbrev pub keptCount : ℕ → TextEnd → ℕ
+keptCount count t = cond (gapAt t) (count - t .blanks) count
 
-abbrev pub opening : Tail → List ℕ
-opening t = cond (gapAt t) (bytes "\\;\\text{") (bytes "\\text{")
+abbrev pub openingQuote : TextEnd → List ℕ
+openingQuote t = cond (gapAt t) (bytes "\\;\\text{") (bytes "\\text{")
 
-abbrev pub closing : Bool → List ℕ
-closing gap = cond gap (bytes "}\\;") (bytes "}")
+abbrev pub closingQuote : Bool → List ℕ
+closingQuote gap = cond gap (bytes "}\\;") (bytes "}")
 
 -- the last symbol of what is appended when a quote is closed
 abbrev pub closingLast : Bool → ℕ
@@ -50,21 +50,21 @@ pub record ClosedAt (s : List ℕ) (i : ℕ) (r : After) : Type 0 where
   pub within : r .next ≤ length s
 
 -- ---- the end of a text, which is kept last symbol first
-pub record Ends (o : List ℕ) (t : Tail) : Type 0 where
+pub record Ends (o : List ℕ) (t : TextEnd) : Type 0 where
   pub few : t .blanks ≤ length o
   pub trimmed : trimStart o ≡ drop (t .blanks) o
   pub last : head (drop (t .blanks) o) ≡ t .last
 
-ends-none : Ends [] (ending 0)
+ends-none : Ends [] (endIn 0)
 ends-none = record { few = omega arith; trimmed = refl; last = refl }
 
-ends-new : (x : ℕ) (o : List ℕ) → blank x ≡ false → Ends (x ∷ o) (ending x)
+ends-new : (x : ℕ) (o : List ℕ) → blank x ≡ false → Ends (x ∷ o) (endIn x)
 ends-new x o e = record { few = omega arith; trimmed = rw (e, dropWhile); last = refl }
 
-ends-step : {o : List ℕ} {t : Tail} (x : ℕ) → Ends o t → Ends (x ∷ o) (grownBy t x)
+ends-step : {o : List ℕ} {t : TextEnd} (x : ℕ) → Ends o t → Ends (x ∷ o) (grownBy t x)
 ends-step {o} {t} x h = go (blank x) refl
   where
-    go : (b : Bool) → blank x ≡ b → Ends (x ∷ o) (cond b (record { last = t .last; blanks = t .blanks + 1 }) (ending x))
+    go : (b : Bool) → blank x ≡ b → Ends (x ∷ o) (cond b (record { last = t .last; blanks = t .blanks + 1 }) (endIn x))
     go true e =
         let n : t .blanks + 1 ≡ suc (t .blanks) = add-one (t .blanks) in
         let f = h .few in
@@ -75,11 +75,11 @@ ends-step {o} {t} x h = go (blank x) refl
         }
     go false e = ends-new x o e
 
-gap-before : {o : List ℕ} {t : Tail} → Ends o t → gapBefore (trimStart o) ≡ gapAt t
+gap-before : {o : List ℕ} {t : TextEnd} → Ends o t → gapBefore (trimStart o) ≡ gapAt t
 gap-before h = ap gapBefore (h .trimmed) ∙ ap (λ x. alnum x || is "}" x) (h .last)
 
 -- ---- what follows a closing quote
-module _ {s : List ℕ} {i r : ℕ} (behind : Ahead s i r (trimStart (drop i s))) where
+module _ {s : List ℕ} {i r : ℕ} (behind : AheadTo s i r (trimStart (drop i s))) where
   gap-behind : gapBehind (drop i s) ≡ (alnum (getD s r 0) || is "\"" (getD s r 0))
   gap-behind = ap (λ x. alnum x || is "\"" x) (ap head (sym (behind .left)) ∙ head-drop s r)
 
@@ -122,24 +122,24 @@ unfolding quotes
 quotes-end q o = refl
 
 -- ---- the loop
-pub record Quoting (s w₀ w : List ℕ) (to cap count : ℕ) (quoted : Bool) (t : Tail) (i : ℕ) : Type 0 where
+pub record Quoting (s w₀ w : List ℕ) (to cap count : ℕ) (quoted : Bool) (t : TextEnd) (i : ℕ) : Type 0 where
   pub out : List ℕ
-  pub so-far : reverse (quotes quoted 0 out (drop i s)) ≡ convertTextQuotes s
+  pub same-as-whole : reverse (quotes quoted 0 out (drop i s)) ≡ convertTextQuotes s
   pub counted : count ≡ length out
   pub wrote : Wrote w₀ w to cap (reverse out)
   pub ends : Ends out t
-  pub slow : count ≤ 8 * i
+  pub bounded : count ≤ 8 * i
 
-pub quoting-none : (s w : List ℕ) (to cap : ℕ) → Quoting s w w to cap 0 false (ending 0) 0
+pub quoting-none : (s w : List ℕ) (to cap : ℕ) → Quoting s w w to cap 0 false (endIn 0) 0
 unfolding convertTextQuotes
-quoting-none s w to cap = record { out = []; so-far = refl; counted = refl; wrote = wrote-none w to cap; ends = ends-none; slow = omega arith }
+quoting-none s w to cap = record { out = []; same-as-whole = refl; counted = refl; wrote = wrote-none w to cap; ends = ends-none; bounded = omega arith }
 
 reverse-put : (bs o : List ℕ) → reverse (reverseAux bs o) ≡ reverse o ++ bs
 reverse-put bs o = reverseAux-reverseAux-nil bs o ∙ reverseAux-eq o bs
 
 -- bs has been appended to the text o
 put-more :
-    {s w₀ w w′ : List ℕ} {to cap count count′ : ℕ} {quoted : Bool} {t : Tail} {i : ℕ} (o bs : List ℕ)
+    {s w₀ w w′ : List ℕ} {to cap count count′ : ℕ} {quoted : Bool} {t : TextEnd} {i : ℕ} (o bs : List ℕ)
     → to + cap ≤ length w₀ → Wrote w₀ w to cap (reverse o) → count ≡ length o → Appended w w′ to cap count count′ bs
     → reverse (quotes quoted 0 (reverseAux bs o) (drop i s)) ≡ convertTextQuotes s → Ends (reverseAux bs o) t → count′ ≤ 8 * i
     → Quoting s w₀ w′ to cap count′ quoted t i
@@ -147,41 +147,41 @@ put-more {w₀ = w₀} {w′ = w′} {to} {cap} o bs fits wrote counted a so-far
     let n = a .counted in
     record {
       out = reverseAux bs o;
-      so-far = so-far;
+      same-as-whole = so-far;
       counted = (let l = length-reverseAux bs o in omega arith);
       wrote = subst (λ l. Wrote w₀ w′ to cap l) (sym (reverse-put bs o)) (wrote-more fits (counted ∙ sym (length-reverse o)) wrote a);
       ends = ends;
-      slow = slow;
+      bounded = slow;
     }
 
 -- the turn at place i, by the definition
 here :
-    {s w₀ w : List ℕ} {to cap count i : ℕ} {t : Tail} {quoted : Bool} {rest : List ℕ} (q : Quoting s w₀ w to cap count quoted t i) → i < length s
+    {s w₀ w : List ℕ} {to cap count i : ℕ} {t : TextEnd} {quoted : Bool} {rest : List ℕ} (q : Quoting s w₀ w to cap count quoted t i) → i < length s
     → quotes quoted 0 (q .out) (getD s i 0 ∷ drop (i + 1) s) ≡ rest → reverse rest ≡ convertTextQuotes s
-here {s} {i = i} {quoted = quoted} q more e = ap reverse (sym e ∙ ap (quotes quoted 0 (q .out)) (sym (drop-step s i more))) ∙ q .so-far
+here {s} {i = i} {quoted = quoted} q more e = ap reverse (sym e ∙ ap (quotes quoted 0 (q .out)) (sym (drop-step s i more))) ∙ q .same-as-whole
 
-closed-by : (b : Bool) (o : List ℕ) → reverseAux (cond b (bytes "\\;") []) (125 ∷ o) ≡ reverseAux (closing b) o
+closed-by : (b : Bool) (o : List ℕ) → reverseAux (cond b (bytes "\\;") []) (125 ∷ o) ≡ reverseAux (closingQuote b) o
 closed-by true o = refl
 closed-by false o = refl
 
-closing-ends : (b : Bool) (o : List ℕ) → Ends (reverseAux (closing b) o) (ending (closingLast b))
+closing-ends : (b : Bool) (o : List ℕ) → Ends (reverseAux (closingQuote b) o) (endIn (closingLast b))
 closing-ends true o = ends-new 59 (92 ∷ 125 ∷ o) refl
 closing-ends false o = ends-new 125 o refl
 
-closing-short : (b : Bool) → length (closing b) ≤ 3
+closing-short : (b : Bool) → length (closingQuote b) ≤ 3
 closing-short true = omega arith
 closing-short false = omega arith
 
-module _ {s w₀ w w′ : List ℕ} {to cap count count′ i : ℕ} {t : Tail} (fits : to + cap ≤ length w₀) (more : i < length s) where
+module _ {s w₀ w w′ : List ℕ} {to cap count count′ i : ℕ} {t : TextEnd} (fits : to + cap ≤ length w₀) (more : i < length s) where
   pub quoting-plain :
       {quoted : Bool} → is "\"" (getD s i 0) ≡ false → Quoting s w₀ w to cap count quoted t i → Appended w w′ to cap count count′ (getD s i 0 ∷ [])
       → Quoting s w₀ w′ to cap count′ quoted (grownBy t (getD s i 0)) (i + 1)
   quoting-plain {quoted} e q a =
-      let n = a .counted in let l = q .slow in
+      let n = a .counted in let l = q .bounded in
       put-more (q .out) (getD s i 0 ∷ []) fits (q .wrote) (q .counted) a (here q more (quotes-plain quoted (q .out) (drop (i + 1) s) (getD s i 0) e)) (ends-step (getD s i 0) (q .ends)) (omega arith)
 
   module _ (quote : is "\"" (getD s i 0) ≡ true) where
-    pub quoting-open : Quoting s w₀ w to cap count false t i → Appended w w′ to cap (kept count t) count′ (opening t) → Quoting s w₀ w′ to cap count′ true (ending 123) (i + 1)
+    pub quoting-open : Quoting s w₀ w to cap count false t i → Appended w w′ to cap (keptCount count t) count′ (openingQuote t) → Quoting s w₀ w′ to cap count′ true (endIn 123) (i + 1)
     quoting-open q a = go (gapAt t) refl a
       where
         turn : reverse (quotes true 0 (openQuote (q .out)) (drop (i + 1) s)) ≡ convertTextQuotes s
@@ -192,38 +192,38 @@ module _ {s w₀ w w′ : List ℕ} {to cap count count′ i : ℕ} {t : Tail} (
             ap₂ (λ b l. reverseAux (bytes "\\text{") (cond b (reverseAux (bytes "\\;") l) (q .out))) (gap-before (q .ends) ∙ e) (q .ends .trimmed)
 
         go : (b : Bool) → gapAt t ≡ b → Appended w w′ to cap (cond b (count - t .blanks) count) count′ (cond b (bytes "\\;\\text{") (bytes "\\text{"))
-            → Quoting s w₀ w′ to cap count′ true (ending 123) (i + 1)
+            → Quoting s w₀ w′ to cap count′ true (endIn 123) (i + 1)
         go true e a =
-            let n = a .counted in let l = q .slow in let f = q .ends .few in let c = q .counted in
+            let n = a .counted in let l = q .bounded in let f = q .ends .few in let c = q .counted in
             let o = drop (t .blanks) (q .out) in let d = length-drop (t .blanks) (q .out) in
             put-more o (bytes "\\;\\text{") fits
             (subst (λ l. Wrote w₀ w to cap l) (sym (reverse-drop (t .blanks) (q .out))) (wrote-less (length (q .out) - t .blanks) (q .wrote)))
             (omega arith) a (ap (λ l. reverse (quotes true 0 l (drop (i + 1) s))) (sym (opened true e)) ∙ turn)
             (ends-new 123 (reverseAux (bytes "\\;\\text") o) refl) (omega arith)
         go false e a =
-            let n = a .counted in let l = q .slow in
+            let n = a .counted in let l = q .bounded in
             put-more (q .out) (bytes "\\text{") fits (q .wrote) (q .counted) a
             (ap (λ l. reverse (quotes true 0 l (drop (i + 1) s))) (sym (opened false e)) ∙ turn)
             (ends-new 123 (reverseAux (bytes "\\text") (q .out)) refl) (omega arith)
 
     pub quoting-close :
-        {r : After} → Quoting s w₀ w to cap count true t i → ClosedAt s (i + 1) r → Appended w w′ to cap count count′ (closing (r .gap))
-        → Quoting s w₀ w′ to cap count′ false (ending (closingLast (r .gap))) (r .next)
+        {r : After} → Quoting s w₀ w to cap count true t i → ClosedAt s (i + 1) r → Appended w w′ to cap count count′ (closingQuote (r .gap))
+        → Quoting s w₀ w′ to cap count′ false (endIn (closingLast (r .gap))) (r .next)
     quoting-close {r} q at a =
         let behind = drop (i + 1) s in
-        let n = a .counted in let l = q .slow in let x = at .next in let few = closing-short (r .gap) in
+        let n = a .counted in let l = q .bounded in let x = at .next in let few = closing-short (r .gap) in
         let turn = here q more (quotes-close (q .out) behind (getD s i 0) quote ∙ quotes-skip false (skipped behind) (closeQuote (q .out) behind) behind) in
         let rest : drop (skipped behind) behind ≡ drop (r .next) s = drop-drop (skipped behind) (i + 1) s ∙ ap (λ k. drop k s) (sym x) in
-        let written : closeQuote (q .out) behind ≡ reverseAux (closing (r .gap)) (q .out) =
+        let written : closeQuote (q .out) behind ≡ reverseAux (closingQuote (r .gap)) (q .out) =
         ap (λ b. reverseAux (cond b (bytes "\\;") []) (125 ∷ q .out)) (sym (at .gap)) ∙ closed-by (r .gap) (q .out) in
-        put-more (q .out) (closing (r .gap)) fits (q .wrote) (q .counted) a
+        put-more (q .out) (closingQuote (r .gap)) fits (q .wrote) (q .counted) a
         (ap₂ (λ o l. reverse (quotes false 0 o l)) (sym written) (sym rest) ∙ turn)
         (closing-ends (r .gap) (q .out)) (omega arith)
 
 -- ---- the end: a quote that is still open is closed
-module _ {s w₀ w : List ℕ} {to cap count i : ℕ} {t : Tail} {quoted : Bool} (q : Quoting s w₀ w to cap count quoted t i) (done : length s ≤ i) where
+module _ {s w₀ w : List ℕ} {to cap count i : ℕ} {t : TextEnd} {quoted : Bool} (q : Quoting s w₀ w to cap count quoted t i) (done : length s ≤ i) where
   last-turn : reverse (cond quoted (125 ∷ q .out) (q .out)) ≡ convertTextQuotes s
-  last-turn = ap reverse (sym (ap (quotes quoted 0 (q .out)) (drop-of-length-le s done) ∙ quotes-end quoted (q .out))) ∙ q .so-far
+  last-turn = ap reverse (sym (ap (quotes quoted 0 (q .out)) (drop-of-length-le s done) ∙ quotes-end quoted (q .out))) ∙ q .same-as-whole
 
   pub quoting-done : quoted ≡ false → Written w₀ w to cap count (convertTextQuotes s)
   quoting-done e =

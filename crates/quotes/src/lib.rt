@@ -1,46 +1,46 @@
 // Quoted text: `"..."` becomes `\text{...}`, with a thin space where a letter, digit, closing brace or another quote is its
 // neighbour. Blanks before such a neighbour are dropped, also those written already: what has been written is never read back, its
 // end is handed on by value.
-use symbols::Class;
 use text::Due;
 use text::Progress;
+use text_symbols::Class;
 ghost use mathlib.Core.Path.{_≡_};
 ghost use Prim.Native.Nat.{_≤_, _<_};
 ghost use lib.ListN.{length};
 ghost use Rattle.spec.specs.Result.{stage};
 ghost use Rattle.spec.specs.Quotes.{convertTextQuotes};
-ghost use Rattle.symbols.specs.Parts.{part};
+ghost use Rattle.text_symbols.specs.Parts.{part};
 ghost use Rattle.text.specs.Writer.{Room, Appended, Regions};
 ghost use Rattle.text.specs.Written.{Written};
 ghost use Rattle.text.specs.Stage.{Ready, Staged};
-ghost use Rattle.quotes.specs.Quotes.{ending, grownBy, gapAt, kept, opening, closing, closingLast, ClosedAt};
+ghost use Rattle.quotes.specs.Quotes.{endIn, grownBy, gapAt, keptCount, openingQuote, closingQuote, closingLast, ClosedAt};
 
 // The end of a text: its last symbol that is not blank (0: none), and the number of blanks behind it.
-pub struct Tail {
+pub struct TextEnd {
     pub last: u8,
     pub blanks: usize,
 }
 
-impl Tail {
+impl TextEnd {
     // The end of a text whose last symbol is not blank, or of none.
-    pub fn new(last: u8) -> Tail
-        ensures { λ r. ⌜ r ≡ ending last ⌝ }
+    pub fn new(last: u8) -> TextEnd
+        ensures { λ r. ⌜ r ≡ endIn last ⌝ }
     {
-        Tail { last, blanks: 0 }
+        TextEnd { last, blanks: 0 }
     }
 
     // The end after one symbol more.
-    pub fn step(self, symbol: u8) -> Tail
+    pub fn step(self, symbol: u8) -> TextEnd
         requires { ⌜ self .blanks < 65536 ⌝ }
         ensures { λ r. ⌜ r ≡ grownBy self symbol ⌝ }
     {
-        if symbols::is_blank(symbol) {
-            return Tail {
+        if text_symbols::is_blank(symbol) {
+            return TextEnd {
                 last: self.last,
                 blanks: self.blanks + 1,
             };
         }
-        Tail::new(symbol)
+        TextEnd::new(symbol)
     }
 
     // Whether an opening quote behind it gets a thin space.
@@ -48,7 +48,7 @@ impl Tail {
         ensures { λ r. ⌜ r ≡ gapAt self ⌝ }
     {
         let last = self.last;
-        symbols::is_alnum(last) | (last == b'}')
+        text_symbols::is_alnum(last) | (last == b'}')
     }
 }
 
@@ -63,9 +63,9 @@ fn after_quote(s: &[u8], i: usize) -> After
     requires { ⌜ i ≤ length (now s) ⌝ }
     ensures { λ r. ⌜ ClosedAt (now (s .entry)) i r ⌝ }
 {
-    let next = symbols::run_end(s, i, Class::Blank);
-    let symbol = search::symbol(s, next);
-    if symbols::is_alnum(symbol) | (symbol == b'"') {
+    let next = text_symbols::run_end(s, i, Class::Blank);
+    let symbol = text_search::symbol(s, next);
+    if text_symbols::is_alnum(symbol) | (symbol == b'"') {
         return After { gap: true, next };
     }
     After {
@@ -75,10 +75,10 @@ fn after_quote(s: &[u8], i: usize) -> After
 }
 
 // Drops the blanks at the end where a thin space is written, and appends it and `\text{`.
-fn put_opening(work: &mut [u8], to: usize, count: usize, tail: Tail) -> usize
+fn put_opening(work: &mut [u8], to: usize, count: usize, tail: TextEnd) -> usize
     requires { ⌜ Room (now work) to 8192 count 8 ⌝ }
     requires { ⌜ tail .blanks ≤ count ⌝ }
-    ensures { λ r. ⌜ Appended (now (work .entry)) (now (work .exit)) to 8192 (kept count tail) r (opening tail) ⌝ }
+    ensures { λ r. ⌜ Appended (now (work .entry)) (now (work .exit)) to 8192 (keptCount count tail) r (openingQuote tail) ⌝ }
 {
     if tail.gap() {
         return text::put_all(work, to, text::CAP, count - tail.blanks, b"\\;\\text{");
@@ -89,7 +89,7 @@ fn put_opening(work: &mut [u8], to: usize, count: usize, tail: Tail) -> usize
 // Appends `}` and perhaps a thin space.
 fn put_closing(work: &mut [u8], to: usize, count: usize, gap: bool) -> usize
     requires { ⌜ Room (now work) to 8192 count 3 ⌝ }
-    ensures { λ r. ⌜ Appended (now (work .entry)) (now (work .exit)) to 8192 count r (closing gap) ⌝ }
+    ensures { λ r. ⌜ Appended (now (work .entry)) (now (work .exit)) to 8192 count r (closingQuote gap) ⌝ }
 {
     if gap {
         return text::put_all(work, to, text::CAP, count, b"}\\;");
@@ -115,7 +115,7 @@ fn rewrite_quotes(work: &mut [u8], from: usize, n: usize, to: usize) -> usize
     let end = from + n;
     let mut count = 0;
     let mut quoted = false;
-    let mut tail = Tail::new(0);
+    let mut tail = TextEnd::new(0);
     let mut i = 0;
     while i < n {
         let b = work[from + i];
@@ -128,13 +128,13 @@ fn rewrite_quotes(work: &mut [u8], from: usize, n: usize, to: usize) -> usize
         if quoted {
             let after = after_quote(&work[from..end], i + 1);
             count = put_closing(work, to, count, after.gap);
-            tail = Tail::new(closing_last(after.gap));
+            tail = TextEnd::new(closing_last(after.gap));
             quoted = false;
             i = after.next;
             continue;
         }
         count = put_opening(work, to, count, tail);
-        tail = Tail::new(b'{');
+        tail = TextEnd::new(b'{');
         quoted = true;
         i += 1;
     }

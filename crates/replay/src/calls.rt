@@ -1,7 +1,7 @@
 // The calls of a case, and what differs from the recorded answer.
 use super::cases::Case;
-use super::cases::OUTPUT;
-use super::cases::WORK;
+use super::cases::MOST_OUTPUT;
+use super::cases::MOST_WORK;
 use super::summary::tell;
 use math_conv::Answer;
 ghost use mathlib.Core.Path.{_≡_};
@@ -10,7 +10,7 @@ ghost use mathlib.Core.List.{_++_};
 ghost use Prim.Native.Nat.{_≤_};
 ghost use lib.Dec.{eqb};
 ghost use lib.ListN.{length, drop, replicate};
-ghost use Rattle.replay.specs.Fits.{Fits};
+ghost use Rattle.replay.specs.Fits.{CaseFits};
 ghost use Rattle.replay.specs.Recorded.{Vouched, Agrees, recorded};
 
 // What a call is lent, and the number that it is to answer, 0 for done.
@@ -32,7 +32,7 @@ pub enum Difference {
 
 // All calls of a case; whether nothing differs.
 pub fn replay(i: usize, case: Case, formula: &[u8], table: &[u8], latex: &[u8], old: &[u8]) -> bool
-    requires { ⌜ Fits case ⌝ }
+    requires { ⌜ CaseFits case ⌝ }
     requires { ⌜ length (now latex) ≤ 8192 ⌝ }
     requires { ⌜ 40960 ≤ length (now old) ⌝ }
 {
@@ -54,7 +54,7 @@ fn replay_recorded(
     latex: &[u8],
     old: &[u8],
 ) -> bool
-    requires { ⌜ Fits case ⌝ }
+    requires { ⌜ CaseFits case ⌝ }
     requires { ⌜ 40960 ≤ length (now old) ⌝ }
 {
     let found = call(
@@ -74,7 +74,7 @@ fn replay_recorded(
 
 // With the output exactly full.
 fn replay_full(i: usize, case: Case, formula: &[u8], table: &[u8], latex: &[u8], old: &[u8]) -> bool
-    requires { ⌜ Fits case ⌝ }
+    requires { ⌜ CaseFits case ⌝ }
     requires { ⌜ length (now latex) ≤ 8192 ⌝ }
     requires { ⌜ 40960 ≤ length (now old) ⌝ }
 {
@@ -102,7 +102,7 @@ fn replay_short(
     latex: &[u8],
     old: &[u8],
 ) -> bool
-    requires { ⌜ Fits case ⌝ }
+    requires { ⌜ CaseFits case ⌝ }
     requires { ⌜ length (now latex) ≤ 8192 ⌝ }
     requires { ⌜ 40960 ≤ length (now old) ⌝ }
 {
@@ -133,7 +133,7 @@ fn replay_narrow(
     latex: &[u8],
     old: &[u8],
 ) -> bool
-    requires { ⌜ Fits case ⌝ }
+    requires { ⌜ CaseFits case ⌝ }
     requires { ⌜ 40960 ≤ length (now old) ⌝ }
 {
     let found = call(
@@ -158,8 +158,8 @@ fn call(setting: Setting, formula: &[u8], table: &[u8], latex: &[u8], old: &[u8]
 {
     let w = setting.work;
     let o = setting.output;
-    let mut work = [0; WORK];
-    let mut output = [0; OUTPUT];
+    let mut work = [0; MOST_WORK];
+    let mut output = [0; MOST_OUTPUT];
     call_on(
         setting.display,
         setting.number,
@@ -264,7 +264,7 @@ fn is_zero(s: &[u8]) -> bool
 }
 
 // Old contents: bytes of all values.
-pub fn fill(s: &mut [u8]) {
+pub fn fill_old(s: &mut [u8]) {
     let mut b = 1;
     for i in 0..s.len() {
         s[i] = b;

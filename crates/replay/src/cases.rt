@@ -5,9 +5,9 @@ ghost use lib.ListN.{length, getD};
 ghost use Rattle.replay.specs.Fits.{Whole};
 
 // The longest buffers, and the longest formula and table together, that there is room for.
-pub const WORK: usize = 40_960;
+pub const MOST_WORK: usize = 40_960;
 
-pub const OUTPUT: usize = 8_192;
+pub const MOST_OUTPUT: usize = 8_192;
 
 const MOST: usize = 57_344;
 
@@ -32,7 +32,7 @@ pub enum Head {
     Other,
 }
 
-pub enum Next {
+pub enum NextCase {
     Whole(Case),
     Broken,
 }
@@ -51,23 +51,23 @@ pub fn read_head(fd: i32) -> Head {
 }
 
 // The next case, whose formula, table and LaTeX come to stand in the body.
-pub fn read_case(fd: i32, body: &mut [u8]) -> Next
+pub fn read_case(fd: i32, body: &mut [u8]) -> NextCase
     requires { ⌜ 65536 ≤ length (now body) ⌝ }
     ensures { λ r. ⌜ Whole r ⌝ }
 {
     let mut header = [0; HEADER];
     let n = io::read_full(fd, &mut header);
     if n < HEADER {
-        return Next::Broken;
+        return NextCase::Broken;
     }
-    let Next::Whole(case) = fitting(case_of(&header)) else {
-        return Next::Broken;
+    let NextCase::Whole(case) = fitting(case_of(&header)) else {
+        return NextCase::Broken;
     };
     let size = case.formula + case.table + case.latex;
     if io::read_full(fd, &mut body[..size]) < size {
-        return Next::Broken;
+        return NextCase::Broken;
     }
-    Next::Whole(case)
+    NextCase::Whole(case)
 }
 
 // Whether nothing is left to read.
@@ -86,31 +86,31 @@ fn case_of(header: &[u8]) -> Case
         output: two(header, 6),
         formula: two(header, 8),
         table: four(header, 10),
-        number: symbols::wide(header[14]) as u64,
+        number: text_symbols::wide(header[14]) as u64,
         latex: two(header, 15),
     }
 }
 
 // The case, if there is room for it.
-fn fitting(case: Case) -> Next
+fn fitting(case: Case) -> NextCase
     ensures { λ r. ⌜ Whole r ⌝ }
 {
-    if WORK < case.work {
-        return Next::Broken;
+    if MOST_WORK < case.work {
+        return NextCase::Broken;
     }
-    if OUTPUT < case.output {
-        return Next::Broken;
+    if MOST_OUTPUT < case.output {
+        return NextCase::Broken;
     }
-    if OUTPUT < case.latex {
-        return Next::Broken;
+    if MOST_OUTPUT < case.latex {
+        return NextCase::Broken;
     }
     if MOST < case.formula {
-        return Next::Broken;
+        return NextCase::Broken;
     }
     if MOST - case.formula < case.table {
-        return Next::Broken;
+        return NextCase::Broken;
     }
-    Next::Whole(case)
+    NextCase::Whole(case)
 }
 
 fn two(s: &[u8], at: usize) -> usize
@@ -118,7 +118,7 @@ fn two(s: &[u8], at: usize) -> usize
     ensures { λ r. ⌜ r ≡ getD (now (s .entry)) at 0 * 256 + getD (now (s .entry)) (at + 1) 0 ⌝ }
     ensures { λ r. ⌜ r < 65536 ⌝ }
 {
-    symbols::wide(s[at]) * 256 + symbols::wide(s[at + 1])
+    text_symbols::wide(s[at]) * 256 + text_symbols::wide(s[at + 1])
 }
 
 fn four(s: &[u8], at: usize) -> usize

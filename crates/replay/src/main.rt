@@ -8,13 +8,13 @@ mod summary;
 
 use cases::Case;
 use cases::Head;
-use cases::Next;
+use cases::NextCase;
 use summary::TALLY;
 use summary::say;
 use summary::say_number;
 ghost use Prim.Native.Nat.{_≤_};
 ghost use lib.ListN.{length};
-ghost use Rattle.replay.specs.Fits.{Fits};
+ghost use Rattle.replay.specs.Fits.{CaseFits};
 
 // Where the old contents of a case's buffers may begin, and how many bytes they are taken from.
 const STARTS: usize = 256;
@@ -48,7 +48,7 @@ fn replay_file(fd: i32) {
         say(b"cases.bin goes on behind its last case\n");
         return;
     }
-    summary::write(count as u64, &tally);
+    summary::write_summary(count as u64, &tally);
 }
 
 // How many cases could be read; all of them have been replayed.
@@ -65,22 +65,22 @@ fn replay_cases(fd: i32, count: usize, tally: &mut [u64; TALLY]) -> usize
 // Whether there was a case to replay.
 fn replay_next(fd: i32, i: usize, tally: &mut [u64; TALLY]) -> bool {
     let mut body = io::large_buffer();
-    let Next::Whole(case) = cases::read_case(fd, &mut body) else {
+    let NextCase::Whole(case) = cases::read_case(fd, &mut body) else {
         return false;
     };
     summary::note(tally, case);
     if !replay_case(i, case, &body) {
-        summary::count(tally, summary::WRONG);
+        summary::count_one(tally, summary::WRONG);
     }
     true
 }
 
 fn replay_case(i: usize, case: Case, body: &[u8]) -> bool
-    requires { ⌜ Fits case ⌝ }
+    requires { ⌜ CaseFits case ⌝ }
     requires { ⌜ 65536 ≤ length (now body) ⌝ }
 {
     let mut old = [0; OLD];
-    calls::fill(&mut old);
+    calls::fill_old(&mut old);
     let start = i % STARTS;
     let table = case.formula;
     let latex = table + case.table;

@@ -12,7 +12,7 @@ pub const WRONG: usize = 13;
 
 pub const TALLY: usize = 14;
 
-pub fn count(tally: &mut [u64; TALLY], at: usize) {
+pub fn count_one(tally: &mut [u64; TALLY], at: usize) {
     if at < TALLY {
         tally[at] = std::num::wrapping_add_u64(tally[at], 1);
     }
@@ -21,17 +21,17 @@ pub fn count(tally: &mut [u64; TALLY], at: usize) {
 pub fn note(tally: &mut [u64; TALLY], case: Case) {
     let number = case.number;
     if number <= 10 {
-        count(tally, number as usize);
+        count_one(tally, number as usize);
     }
     if !case.display {
-        count(tally, OFF);
+        count_one(tally, OFF);
     }
     if 0 < case.table {
-        count(tally, DEFINED);
+        count_one(tally, DEFINED);
     }
 }
 
-pub fn write(cases: u64, tally: &[u64; TALLY]) {
+pub fn write_summary(cases: u64, tally: &[u64; TALLY]) {
     write_kinds(cases, tally);
     for number in 1..11 {
         say_refused(tally[number], number as u64);

@@ -1,4 +1,4 @@
--- The rules of the scripts are those of the crate `rewrite`, with the sign in the pattern and in what is written. Assumes nothing.
+-- The rules of the scripts are those of the crate `pattern_rewriting`, with the sign in the pattern and in what is written. Assumes nothing.
 use mathlib.Core.Path.{_≡_, refl, sym, ap}
 use mathlib.Core.Bool.{Bool, true, false, cond, and-false}
 use mathlib.Core.List.{List, [], _∷_}
@@ -12,7 +12,7 @@ use Rattle.spec.specs.Sweep.{taken, kept, sweep}
 use Rattle.spec.specs.Closing.{findMatchingBrace}
 use Rattle.spec.specs.Scripts.{wrappedText, wrapText, wrapTextSubscripts, wrapMultichar, wrapMulticharScripts}
 use Rattle.spec.specs.Laws.Sweep.{sweep-same}
-use Rattle.rewrite.specs.Edits.{wrappedBy, wrapTextBy, wrapMulticharBy}
+use Rattle.pattern_rewriting.specs.Edits.{wrappedBy, wrapTextBy, wrapMulticharBy}
 
 module _ (sign : ℕ) where
   wrapped-same : (s : List ℕ) (o : Option (List ℕ)) → wrappedBy (sign ∷ bytes "{") s o ≡ wrappedText sign s o

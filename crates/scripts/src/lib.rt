@@ -1,6 +1,6 @@
 // Subscripts and superscripts: a group in parentheses, a text block, or two letters or more behind `_` or `^` get braces. Each
 // rewriting is a stage of its own, for one sign.
-use rewrite::Kind;
+use pattern_rewriting::PatternKind;
 use text::Progress;
 ghost use Rattle.spec.specs.Result.{stage};
 ghost use Rattle.spec.specs.Scripts.{convertParenToBrace, wrapTextSubscripts, wrapMulticharScripts, convertScripts, convertSubscripts, convertSuperscripts};
@@ -13,7 +13,7 @@ pub fn convert_paren_to_brace(work: &mut [u8], text: Progress, sign: u8) -> Prog
 {
     let pattern = [sign, b'('];
     let left = [sign, b'{'];
-    rewrite::convert(work, text, Kind::ParenToBrace, &pattern, &left)
+    pattern_rewriting::convert_pattern(work, text, PatternKind::ParenToBrace, &pattern, &left)
 }
 
 // `_\text{`..`}` becomes `_{\text{`..`}}`.
@@ -23,7 +23,7 @@ pub fn wrap_text_subscripts(work: &mut [u8], text: Progress, sign: u8) -> Progre
 {
     let pattern = [sign, b'\\', b't', b'e', b'x', b't', b'{'];
     let left = [sign, b'{'];
-    rewrite::convert(work, text, Kind::WrapText, &pattern, &left)
+    pattern_rewriting::convert_pattern(work, text, PatternKind::WrapText, &pattern, &left)
 }
 
 // `_abc` becomes `_{abc}`: LaTeX takes one symbol only.
@@ -33,7 +33,7 @@ pub fn wrap_multichar_scripts(work: &mut [u8], text: Progress, sign: u8) -> Prog
 {
     let pattern = [sign];
     let left = [sign, b'{'];
-    rewrite::convert(work, text, Kind::WrapMultichar, &pattern, &left)
+    pattern_rewriting::convert_pattern(work, text, PatternKind::WrapMultichar, &pattern, &left)
 }
 
 fn convert_scripts(work: &mut [u8], text: Progress, sign: u8) -> Progress

@@ -18,13 +18,13 @@ use Rattle.spec.specs.Finish.{scriptGroup, closing, alreadySized, Group, tall, 
 use Rattle.spec.specs.Laws.Booleans.{or-neither}
 
 -- ---- what stands behind a closer is shorter, and the closer stands before it
-pub record Behind (c : ℕ) (s r : List ℕ) : Type 0 where
+pub record BehindCloser (c : ℕ) (s r : List ℕ) : Type 0 where
   pub shorter : length r < length s
   pub closer : getD s (length s - suc (length r)) 0 ≡ c
   pub suffix : until s r ++ r ≡ s
 
 module _ (o c : ℕ) where
-  behind-more : (x : ℕ) (s r : List ℕ) → Behind c s r → Behind c (x ∷ s) r
+  behind-more : (x : ℕ) (s r : List ℕ) → BehindCloser c s r → BehindCloser c (x ∷ s) r
   behind-more x s r b =
       let h = b .shorter in
       let n : suc (length s) - suc (length r) ≡ suc (length s - suc (length r)) = omega arith in
@@ -43,14 +43,14 @@ module _ (o c : ℕ) where
       go false true f e = eqb-true x c f
       go false false f e = let z : _≡_ {A = ℕ} 0 1 = cc in absurd (omega arith)
 
-  pub close-behind : (d : ℕ) (s r : List ℕ) → close o c d s ≡ some r → Behind c s r
+  pub close-behind-closer : (d : ℕ) (s r : List ℕ) → close o c d s ≡ some r → BehindCloser c s r
   unfolding close
-  close-behind d [] r e = let z : _≡_ {A = ℕ} 0 1 = cc in absurd (omega arith)
-  close-behind d (x ∷ s) r e = go (sideOf (eqb x o) (eqb x c)) refl d e (λ k f. close-behind k s r f)
+  close-behind-closer d [] r e = let z : _≡_ {A = ℕ} 0 1 = cc in absurd (omega arith)
+  close-behind-closer d (x ∷ s) r e = go (sideOf (eqb x o) (eqb x c)) refl d e (λ k f. close-behind-closer k s r f)
     where
       go : (side : Side) → sideOf (eqb x o) (eqb x c) ≡ side → (d : ℕ)
           → _≡_ {A = Option (List ℕ)} (elim side [ opens ↦ close o c (suc d) s | closes ↦ elim d [ zero ↦ some s | suc e ↦ close o c e s ] | neither ↦ close o c d s ]) (some r)
-          → ((k : ℕ) → close o c k s ≡ some r → Behind c s r) → Behind c (x ∷ s) r
+          → ((k : ℕ) → close o c k s ≡ some r → BehindCloser c s r) → BehindCloser c (x ∷ s) r
       go opens f d e rest = behind-more x s r (rest (suc d) e)
       go closes f zero e rest =
           let same : s ≡ r = cc in let l = ap length same in
@@ -72,7 +72,7 @@ script-short : (x : ℕ) (s r : List ℕ) → scriptGroup x s ≡ some r → len
 script-short x s r e = go (scriptSign x && is "{" (head s)) e
   where
     go : (t : Bool) → _≡_ {A = Option (List ℕ)} (elim t [ true ↦ matchingDelimiter 123 125 s | false ↦ none ]) (some r) → length r ≤ length s
-    go true e = let b = close-behind 123 125 0 (past s) r e .shorter in let p = past-short s in omega arith
+    go true e = let b = close-behind-closer 123 125 0 (past s) r e .shorter in let p = past-short s in omega arith
     go false e = let z : _≡_ {A = ℕ} 0 1 = cc in absurd (omega arith)
 
 -- ---- the parts of a step, by what has been found
@@ -103,37 +103,37 @@ scriptStep go o x s q =
     ]
 
 -- a tall group: its parts are no longer than the text, and its closer stands before what is behind
-pub record Parts (s : List ℕ) (g : Group) : Type 0 where
+pub record GroupWithin (s : List ℕ) (g : Group) : Type 0 where
   pub content : length (g .content) ≤ length s
   pub behind : length (g .behind) ≤ length s
 
 module _ (x : ℕ) (s : List ℕ) (g : Group) where
-  if-tall-parts : (c : ℕ) (m r : List ℕ) → length m ≤ length s → length r ≤ length s → ifTall c m r ≡ some g → Parts s g
+  if-tall-parts : (c : ℕ) (m r : List ℕ) → length m ≤ length s → length r ≤ length s → ifTall c m r ≡ some g → GroupWithin s g
   if-tall-parts c m r hm hr e = go (tall m) e
     where
-      go : (t : Bool) → _≡_ {A = Option Group} (cond t (some (record { closer = c; content = m; behind = r })) none) (some g) → Parts s g
+      go : (t : Bool) → _≡_ {A = Option Group} (cond t (some (record { closer = c; content = m; behind = r })) none) (some g) → GroupWithin s g
       go true e =
           let f : _≡_ {A = Group} (record { closer = c; content = m; behind = r }) g = cc in
           let a = ap (λ (h : Group). length (h .content)) f in let b = ap (λ (h : Group). length (h .behind)) f in
           record { content = omega arith; behind = omega arith }
       go false e = let z : _≡_ {A = ℕ} 0 1 = cc in absurd (omega arith)
 
-  group-parts : (o : List ℕ) → tallGroup o x s ≡ some g → Parts s g
+  group-parts : (o : List ℕ) → tallGroup o x s ≡ some g → GroupWithin s g
   unfolding tallGroup
   group-parts o e = go (alreadySized o) e
     where
-      found : (c : ℕ) (q : Option (List ℕ)) → close x c 0 s ≡ q → groupOf c s q ≡ some g → Parts s g
+      found : (c : ℕ) (q : Option (List ℕ)) → close x c 0 s ≡ q → groupOf c s q ≡ some g → GroupWithin s g
       found c none f e = let z : _≡_ {A = ℕ} 0 1 = cc in absurd (omega arith)
       found c (some r) f e =
-          let b = close-behind x c 0 s r f .shorter in
+          let b = close-behind-closer x c 0 s r f .shorter in
           let l = length-take (pred (length s - length r)) s in
           if-tall-parts c (inside s r) r (omega arith) (omega arith) e
 
-      with-closer : (q : Option ℕ) → groupWith x s q ≡ some g → Parts s g
+      with-closer : (q : Option ℕ) → groupWith x s q ≡ some g → GroupWithin s g
       with-closer none e = let z : _≡_ {A = ℕ} 0 1 = cc in absurd (omega arith)
       with-closer (some c) e = found c (close x c 0 s) refl e
 
-      go : (t : Bool) → _≡_ {A = Option Group} (elim t [ true ↦ none | false ↦ groupWith x s (closing x) ]) (some g) → Parts s g
+      go : (t : Bool) → _≡_ {A = Option Group} (elim t [ true ↦ none | false ↦ groupWith x s (closing x) ]) (some g) → GroupWithin s g
       go true e = let z : _≡_ {A = ℕ} 0 1 = cc in absurd (omega arith)
       go false e = with-closer (closing x) e
 
@@ -196,25 +196,25 @@ script-suffix x s r e = go (scriptSign x && is "{" (head s)) e s refl
 
     go : (t : Bool) → _≡_ {A = Option (List ℕ)} (elim t [ true ↦ matchingDelimiter 123 125 s | false ↦ none ]) (some r) → (s′ : List ℕ) → s ≡ s′ → until (x ∷ s) r ++ r ≡ x ∷ s
     go true e [] q =
-        let b = close-behind 123 125 0 (past s) r e .shorter in let l = ap (λ (t : List ℕ). length (past t)) q in absurd (omega arith)
+        let b = close-behind-closer 123 125 0 (past s) r e .shorter in let l = ap (λ (t : List ℕ). length (past t)) q in absurd (omega arith)
     go true e (y ∷ t) q =
-        let b = close-behind 123 125 0 t r (ap (λ (u : List ℕ). close 123 125 0 (past u)) (sym q) ∙ e) in
+        let b = close-behind-closer 123 125 0 t r (ap (λ (u : List ℕ). close 123 125 0 (past u)) (sym q) ∙ e) in
         let h = b .shorter in
         ap (λ u. until (x ∷ u) r ++ r) q ∙ again x (y ∷ t) (omega arith) (again y t (omega arith) (b .suffix)) ∙ ap (λ u. x ∷ u) (sym q)
     go false e s′ q = let z : _≡_ {A = ℕ} 0 1 = cc in absurd (omega arith)
 
-pub record Plain (s : List ℕ) : Type 0 where
+pub record Openerless (s : List ℕ) : Type 0 where
   pub round : contains (bytes "(") s ≡ false
   pub square : contains (bytes "[") s ≡ false
 
 abbrev Smaller : ℕ → Type 0
-Smaller k = (o s : List ℕ) → Plain s → sizeWith k o s ≡ s
+Smaller k = (o s : List ℕ) → Openerless s → sizeWith k o s ≡ s
 
-with-plain : (k : ℕ) (o s : List ℕ) → Plain s → sizeWith k o s ≡ s
+with-openerless : (k : ℕ) (o s : List ℕ) → Openerless s → sizeWith k o s ≡ s
 unfolding sizeWith sizeStep tallGroup
-with-plain zero o s plain = refl
-with-plain (suc k) o [] plain = refl
-with-plain (suc k) o (x ∷ s) plain = script (scriptGroup x s) refl (with-plain k)
+with-openerless zero o s plain = refl
+with-openerless (suc k) o [] plain = refl
+with-openerless (suc k) o (x ∷ s) plain = script (scriptGroup x s) refl (with-openerless k)
   where
     round : (eqb x 40 ≡ false) × (contains (bytes "(") s ≡ false)
     round = or-neither (eqb x 40) (contains (bytes "(") s) (plain .round)
@@ -235,15 +235,15 @@ with-plain (suc k) o (x ∷ s) plain = script (scriptGroup x s) refl (with-plain
         ∙ ap (λ t. x ∷ t) (again (x ∷ o) s (record { round = round .1; square = square .1 }))
     script (some r) e again =
         let suffix = script-suffix x s r e in
-        let p : Plain r = record {
+        let p : Openerless r = record {
           round = contains-suffix (bytes "(") (until (x ∷ s) r) r (ap (contains (bytes "(")) suffix ∙ plain .round);
           square = contains-suffix (bytes "[") (until (x ∷ s) r) r (ap (contains (bytes "[")) suffix ∙ plain .square);
         } in
         ap (λ t. until (x ∷ s) r ++ t) (again (reverseAux (until (x ∷ s) r) o) r p) ∙ suffix
 
-pub size-plain : (s : List ℕ) → Plain s → sizeDelimitersToContent s ≡ s
+pub size-openerless : (s : List ℕ) → Openerless s → sizeDelimitersToContent s ≡ s
 unfolding sizeDelimitersToContent
-size-plain s plain = with-plain (length s) [] s plain
+size-openerless s plain = with-openerless (length s) [] s plain
 
-pub plain-of : (s : List ℕ) → contains (bytes "(") s || contains (bytes "[") s ≡ false → Plain s
-plain-of s e = let p = or-neither (contains (bytes "(") s) (contains (bytes "[") s) e in record { round = p .0; square = p .1 }
+pub openerless-of : (s : List ℕ) → contains (bytes "(") s || contains (bytes "[") s ≡ false → Openerless s
+openerless-of s e = let p = or-neither (contains (bytes "(") s) (contains (bytes "[") s) e in record { round = p .0; square = p .1 }

@@ -1,7 +1,7 @@
 -- What the code's searches say of a place, and what is written from there on.
---     sizedAt               what is written from place i of a level on
---     TallIn, TallAt        the answers of the searches for a tall group
---     Kept, Grown           the pieces: symbols that are copied, and a tall group
+--     sizedAt                 what is written from place i of a level on
+--     TallIn, TallAt          the answers of the searches for a tall group
+--     PieceKept, Grown        the pieces: symbols that are copied, and a tall group
 -- Assumes nothing.
 use mathlib.Core.Path.{_≡_, refl, sym, ap, ap₂, _∙_, subst}
 use mathlib.Core.Bool.{Bool, true, false, cond, _&&_}
@@ -19,12 +19,12 @@ use Rattle.spec.specs.Closing.{close, matchingDelimiter}
 use Rattle.spec.specs.Finish.{scriptGroup, closing, alreadySized, Group, tall, tallGroup, leftRight, sizeDelimitersToContent}
 use Rattle.spec.specs.Laws.Symbols.{drop-step, head-drop, starts-short}
 use Rattle.spec.specs.Laws.Ends.{ends-front}
-use Rattle.symbols.specs.Parts.{part, drop-take}
-use Rattle.search.specs.Search.{Closes, closes-at, closes-within, closes-nothing, reach, inside-drop, until-drop}
-use Rattle.symbols.specs.Places.{before, before-next}
-use Rattle.search.specs.declared.Found.{Found}
-use Rattle.search.specs.declared.Found.the-variants.{At, Nothing}
-use Rattle.sizing.specs.Levels.{ifTall, groupOf, groupWith, groupStep, scriptStep, sizes, sizes-first, size-step, close-behind}
+use Rattle.text_symbols.specs.Parts.{part, drop-take}
+use Rattle.text_search.specs.Search.{Closes, closes-at, closes-within, closes-nothing, reach, inside-drop, until-drop}
+use Rattle.text_symbols.specs.Places.{before, before-next}
+use Rattle.text_search.specs.declared.Found.{Found}
+use Rattle.text_search.specs.declared.Found.the-variants.{At, Nothing}
+use Rattle.sizing.specs.Levels.{ifTall, groupOf, groupWith, groupStep, scriptStep, sizes, sizes-first, size-step, close-behind-closer}
 use Rattle.sizing.specs.Alike.{Closer, group, sizes-alike}
 use Rattle.sizing.specs.declared.Piece.{Piece}
 use Rattle.sizing.specs.declared.Piece.the-variants.{Keep, Tall}
@@ -65,9 +65,9 @@ module _ (s : List ℕ) (i : ℕ) {a : Bool} {y : ℕ} (sign : a ≡ scriptSign 
   script-no t = rw (sym test-is ∙ t, scriptGroup)
 
 -- ---- a tall group behind its opener
-abbrev pub grouped : ℕ → List ℕ → Found → Option Group
-grouped c s (At k) = some (record { closer = c; content = take k s; behind = drop (k + 1) s })
-grouped c s Nothing = none
+abbrev pub closedGroup : ℕ → List ℕ → Found → Option Group
+closedGroup c s (At k) = some (record { closer = c; content = take k s; behind = drop (k + 1) s })
+closedGroup c s Nothing = none
 
 abbrev pub closesAt : ℕ → List ℕ → Found → Type 0
 closesAt c s (At k) = getD s k 0 ≡ c
@@ -75,7 +75,7 @@ closesAt c s Nothing = Unit {0}
 
 pub record TallIn (s : List ℕ) (o c : ℕ) (r : Found) : Type 0 where
   pub within : reach r ≤ length s
-  pub group : groupOf c s (close o c 0 s) ≡ grouped c s r
+  pub group : groupOf c s (close o c 0 s) ≡ closedGroup c s r
   pub closes : closesAt c s r
 
 module _ (s : List ℕ) (o c : ℕ) {r : Found} (f : Closes s r (close o c 0 s)) where
@@ -92,7 +92,7 @@ module _ (s : List ℕ) (o c : ℕ) {r : Found} (f : Closes s r (close o c 0 s))
     pub tall-high : tall (take k s) ≡ true → TallIn s o c (At k)
     tall-high t =
         let w = closes-within f e in
-        let b = close-behind o c 0 s (drop (k + 1) s) (closes-at f e) in
+        let b = close-behind-closer o c 0 s (drop (k + 1) s) (closes-at f e) in
         let l = length-drop (k + 1) s in
         let n : length s - suc (length (drop (k + 1) s)) ≡ k = omega arith in
         record {
@@ -104,7 +104,7 @@ module _ (s : List ℕ) (o c : ℕ) {r : Found} (f : Closes s r (close o c 0 s))
 -- ---- a tall group at a place
 pub record TallAt (s : List ℕ) (i : ℕ) (r : Found) : Type 0 where
   pub within : reach r ≤ length (drop (i + 1) s)
-  pub group : tallGroup (before s i) (getD s i 0) (drop (i + 1) s) ≡ grouped (closerOf (getD s i 0)) (drop (i + 1) s) r
+  pub group : tallGroup (before s i) (getD s i 0) (drop (i + 1) s) ≡ closedGroup (closerOf (getD s i 0)) (drop (i + 1) s) r
   pub closes : closesAt (closerOf (getD s i 0)) (drop (i + 1) s) r
 
 module _ (s : List ℕ) (i : ℕ) where
@@ -123,7 +123,7 @@ module _ (s : List ℕ) (i : ℕ) where
         record {
           within = t .within;
           group = open-group ∙ ap (λ y. groupWith y (drop (i + 1) s) (closing y)) same ∙ ap (groupWith x (drop (i + 1) s)) is-some
-              ∙ t .group ∙ ap (λ d. grouped d (drop (i + 1) s) r) (sym q);
+              ∙ t .group ∙ ap (λ d. closedGroup d (drop (i + 1) s) r) (sym q);
           closes = subst (λ d. closesAt d (drop (i + 1) s) r) (sym q) (t .closes);
         }
 
@@ -137,8 +137,8 @@ module _ (s : List ℕ) (i : ℕ) where
         }
 
 -- ---- the pieces
-pub record Kept (s : List ℕ) (i k : ℕ) : Type 0 where
-  pub some : 0 < k
+pub record PieceKept (s : List ℕ) (i k : ℕ) : Type 0 where
+  pub positive : 0 < k
   pub fits : i + k ≤ length s
   pub step : sizedAt s i ≡ take k (drop i s) ++ sizedAt s (i + k)
 
@@ -147,7 +147,7 @@ pub record Grown (s : List ℕ) (i k : ℕ) : Type 0 where
   pub step : sizedAt s i ≡ leftRight (getD s i 0) (closerOf (getD s i 0)) (sizeDelimitersToContent (take k (drop (i + 1) s))) ++ sizedAt s (i + k + 2)
 
 abbrev pub PieceFor : List ℕ → ℕ → Piece → Type 0
-PieceFor s i (Keep k) = Kept s i k
+PieceFor s i (Keep k) = PieceKept s i k
 PieceFor s i (Tall k) = Grown s i k
 
 passed-many : (s : List ℕ) (i k : ℕ) → reverseAux (take k (drop i s)) (before s i) ≡ before s (i + k)
@@ -174,7 +174,7 @@ module _ (s : List ℕ) (i : ℕ) (inside : i < length s) where
         ap₂ until (sym (drop-step s i inside)) behind ∙ until-drop (drop i s) (j + 2) (omega arith)
         in
         record {
-          some = omega arith;
+          positive = omega arith;
           fits = omega arith;
           step = here ∙ ap (scriptStep sizes (before s i) x t) (closes-at f e)
               ∙ ap (λ u. u ++ sizes (reverseAux u (before s i)) (drop (j + 1) t)) block
@@ -188,9 +188,9 @@ module _ (s : List ℕ) (i : ℕ) (inside : i < length s) where
       pub symbol-piece : {q : Found} → TallAt s i q → q ≡ Nothing → PieceFor s i (Keep 1)
       unfolding sizedAt
       symbol-piece t n =
-          let g = t .group ∙ ap (grouped (closerOf (getD s i 0)) (drop (i + 1) s)) n in
+          let g = t .group ∙ ap (closedGroup (closerOf (getD s i 0)) (drop (i + 1) s)) n in
           record {
-            some = omega arith;
+            positive = omega arith;
             fits = omega arith;
             step = no-script ∙ ap (groupStep sizes (before s i) (getD s i 0) (drop (i + 1) s)) g
                 ∙ ap (λ p. getD s i 0 ∷ sizes p (drop (i + 1) s)) (sym (before-next s i inside))
@@ -202,7 +202,7 @@ module _ (s : List ℕ) (i : ℕ) (inside : i < length s) where
       tall-piece {k = k} t n =
           let x = getD s i 0 in let b = drop (i + 1) s in let c = closerOf x in let o = before s i in
           let w = t .within in let q = ap reach n in let l = length-drop (i + 1) s in
-          let g = t .group ∙ ap (grouped c b) n in
+          let g = t .group ∙ ap (closedGroup c b) n in
           let closes : getD b k 0 ≡ c = subst (closesAt c b) n (t .closes) in
           let m = leftRight x c (sizes [] (take k b)) in
           let e1 : i + 1 + (k + 1) ≡ i + k + 2 = omega arith in

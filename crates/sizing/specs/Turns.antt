@@ -1,5 +1,5 @@
 -- The turns of the sizing loop: what a piece says has been written. Assumes nothing.
---     Sized     what the function ensures
+--     DelimitersSized     what the function ensures
 use mathlib.Core.Path.{_≡_, sym, ap, ap₂, _∙_, subst}
 use mathlib.Core.List.{List, [], _∷_, _++_}
 use Prim.Native.Nat.{ℕ, _+_, _-_, _*_, _≤_}
@@ -7,16 +7,16 @@ use native.Mathlib.Omega.{arith}
 use lib.ListN.{length, getD, take, drop, drop-of-length-le}
 use Rattle.spec.specs.Symbols.{bytes}
 use Rattle.spec.specs.Finish.{leftRight, sizeDelimitersToContent}
-use Rattle.symbols.specs.Parts.{part, length-part, sub-part}
+use Rattle.text_symbols.specs.Parts.{part, length-part, sub-part}
 use Rattle.text.specs.Writer.{Regions, Appended, Apart, apart-part, appended-more, appended-part}
-use Rattle.symbols.specs.Places.{before}
+use Rattle.text_symbols.specs.Places.{before}
 use Rattle.text.specs.Filling.{Filling, filling-more, filling-source, filling-symbol}
 use Rattle.sizing.specs.Levels.{sizes, sizes-first, sizes-end}
-use Rattle.sizing.specs.Pieces.{sizedAt, closerOf, PieceFor, Kept, Grown}
+use Rattle.sizing.specs.Pieces.{sizedAt, closerOf, PieceFor, PieceKept, Grown}
 use Rattle.sizing.specs.declared.Piece.{Piece}
 use Rattle.sizing.specs.declared.Piece.the-variants.{Keep, Tall}
 
-pub record Sized (w w′ : List ℕ) (from n to count r : ℕ) : Type 0 where
+pub record DelimitersSized (w w′ : List ℕ) (from n to count r : ℕ) : Type 0 where
   pub appended : Appended w w′ to 8192 count r (sizeDelimitersToContent (part from n w))
   pub few : r ≤ count + 7 * n
 
@@ -40,7 +40,7 @@ module _
     symbols j m h = sub-part from n j m w h ∙ ap (λ s. take m (drop j s)) (appended-part (filling .appended) from n (regions .apart))
 
     module _ {k : ℕ} (e : r ≡ Keep k) where
-      pub kept-piece : Kept (part from n w₀) i k
+      pub kept-piece : PieceKept (part from n w₀) i k
       kept-piece = subst (PieceFor (part from n w₀) i) e source
 
       pub kept-fits : i + k ≤ n
@@ -62,7 +62,7 @@ module _
       pub grown-more :
           {w₁ w₂ w₃ : List ℕ} {a b count′ : ℕ} {c : ℕ}
           → Appended w w₁ to 8192 count a (bytes "\\left" ++ getD w (from + i) 0 ∷ [])
-          → Sized w₁ w₂ (from + (i + 1)) k to a b
+          → DelimitersSized w₁ w₂ (from + (i + 1)) k to a b
           → c ≡ closerOf (getD w (from + i) 0)
           → Appended w₂ w₃ to 8192 b count′ (bytes "\\right" ++ c ∷ [])
           → Filling w₀ w₃ to 8192 count₀ count′ (sizedAt (part from n w₀) (i + k + 2)) whole

@@ -14,7 +14,7 @@ ghost use Rattle.spec.specs.Finish.{sizeDelimitersToContent};
 ghost use Rattle.text.specs.Writer.{Room, Appended, Regions};
 ghost use Rattle.text.specs.Stage.{Ready, Staged};
 ghost use Rattle.sizing.specs.Pieces.{closerOf};
-ghost use Rattle.sizing.specs.Turns.{Sized};
+ghost use Rattle.sizing.specs.Turns.{DelimitersSized};
 
 // What is done at a place.
 pub enum Piece {
@@ -60,7 +60,7 @@ fn put_right(work: &mut [u8], to: usize, count: usize, b: u8) -> usize
 // Appends the `n` symbols at `from`, with tall groups sized, on every level.
 fn size(work: &mut [u8], from: usize, n: usize, to: usize, count: usize) -> usize
     requires { ⌜ Regions (now work) from n to 8192 count ⌝ }
-    ensures { λ r. ⌜ Sized (now (work .entry)) (now (work .exit)) from n to count r ⌝ }
+    ensures { λ r. ⌜ DelimitersSized (now (work .entry)) (now (work .exit)) from n to count r ⌝ }
 {
     let end = from + n;
     let mut total = count;

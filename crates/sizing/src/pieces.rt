@@ -1,6 +1,6 @@
 // What stands at a place of a level: a script group, a tall group, or a symbol.
 use super::Piece;
-use search::Found;
+use text_search::Found;
 ghost use Prim.Native.Nat.{_+_, _≤_, _<_};
 ghost use mathlib.Core.Path.{_≡_};
 ghost use mathlib.Core.Bool.{_||_};
@@ -8,24 +8,24 @@ ghost use mathlib.Core.List.{reverse};
 ghost use lib.ListN.{length, getD, drop};
 ghost use Rattle.spec.specs.Symbols.{bytes, starts, contains};
 ghost use Rattle.spec.specs.Finish.{tall, scriptGroup, alreadySized};
-ghost use Rattle.search.specs.Search.{Closes};
-ghost use Rattle.symbols.specs.Places.{before};
+ghost use Rattle.text_search.specs.Search.{Closes};
+ghost use Rattle.text_symbols.specs.Places.{before};
 ghost use Rattle.sizing.specs.Pieces.{TallIn, TallAt, PieceFor};
 
 fn is_tall(s: &[u8]) -> bool
     ensures { λ r. ⌜ r ≡ tall (now (s .entry)) ⌝ }
 {
-    search::contains(s, b"\\frac")
-        | (search::contains(s, b"\\sqrt")
-            | (search::contains(s, b"\\binom")
-                | (search::contains(s, b"\\sum") | search::contains(s, b"\\int"))))
+    text_search::contains(s, b"\\frac")
+        | (text_search::contains(s, b"\\sqrt")
+            | (text_search::contains(s, b"\\binom")
+                | (text_search::contains(s, b"\\sum") | text_search::contains(s, b"\\int"))))
 }
 
 // Whether a delimiter that can be sized occurs.
 pub fn has_delimiter(s: &[u8]) -> bool
     ensures { λ r. ⌜ r ≡ contains (bytes "(") (now (s .entry)) || contains (bytes "[") (now (s .entry)) ⌝ }
 {
-    search::contains(s, b"(") | search::contains(s, b"[")
+    text_search::contains(s, b"(") | text_search::contains(s, b"[")
 }
 
 // Whether the word stands right before a place.
@@ -37,7 +37,7 @@ fn stands_before(s: &[u8], i: usize, word: &[u8]) -> bool
         return false;
     }
     let start = i - word.len();
-    search::starts_with(&s[start..i], word)
+    text_search::starts_with(&s[start..i], word)
 }
 
 // Whether the delimiter at a place has its size already.
@@ -54,8 +54,8 @@ fn script_at(s: &[u8], i: usize) -> Found
     ensures { λ r. ⌜ Closes (drop (i + 1) (now (s .entry))) r (scriptGroup (getD (now (s .entry)) i 0) (drop (i + 1) (now (s .entry)))) ⌝ }
 {
     let next = i + 1;
-    if symbols::is_script_sign(s[i]) & (search::symbol(s, next) == b'{') {
-        return closing::matching_delimiter(&s[next..], b'{', b'}');
+    if text_symbols::is_script_sign(s[i]) & (text_search::symbol(s, next) == b'{') {
+        return text_closing::matching_delimiter(&s[next..], b'{', b'}');
     }
     Found::Nothing
 }
@@ -65,7 +65,7 @@ fn tall_inside(s: &[u8], opener: u8, closer: u8) -> Found
     requires { ⌜ length (now s) ≤ 16384 ⌝ }
     ensures { λ r. ⌜ TallIn (now (s .entry)) opener closer r ⌝ }
 {
-    let Found::At(k) = closing::find_closer(s, opener, closer) else {
+    let Found::At(k) = text_closing::find_closer(s, opener, closer) else {
         return Found::Nothing;
     };
     if is_tall(&s[0..k]) {

@@ -11,7 +11,7 @@ use Rattle.spec.specs.Symbols.{bytes, is, _andThen_, blank, dropWhileEnd, textM
 use Rattle.spec.specs.Sweep.{Turn, taken, kept}
 use Rattle.spec.specs.Closing.{Side, opens, closes, neither, anySide, pushed, splitFrom, findMatchingParen, findCommaInArgs, commaBehind, findUnescapedComma, unescapedBehind}
 use Rattle.spec.specs.Calls.{callAt, callLength, rewritten, convertCalls, nonblank, joined, latexCases, spliced, casesOnce, convertCases, bottom, subscript, latexUnderset, latexAttach, attachOnce, attachTimes, convertAttach, convertBinom}
-use Rattle.stage_laws.specs.Each.{Each, done, more, EachIf, nowhere, there, Parts, none-left, part, each-of, each-then, each-get, each-append, each-take, each-drop, each-drop-while, each-drop-while-end, each-find, each-sweep, each-replace}
+use Rattle.stage_laws.specs.Each.{Each, done, more, EachIf, nowhere, there, EachPart, none-left, part, each-of, each-then, each-get, each-append, each-take, each-drop, each-drop-while, each-drop-while-end, each-find, each-sweep, each-replace}
 
 abbrev pub unmarked : ℕ → Bool
 unmarked x = not (eqb x textMark || eqb x romanMark)
@@ -51,17 +51,17 @@ pub around : (left right : List ℕ) {s : List ℕ} → Each unmarked left → E
 around left right a b c = each-append (each-append a c) b
 
 -- ---- cases
-parts-pushed : (x : ℕ) {ss : List (List ℕ)} → unmarked x ≡ true → Parts unmarked ss → Parts unmarked (pushed x ss)
+parts-pushed : (x : ℕ) {ss : List (List ℕ)} → unmarked x ≡ true → EachPart unmarked ss → EachPart unmarked (pushed x ss)
 parts-pushed x e none-left = part (more e done) none-left
 parts-pushed x e (part a b) = part (more e a) b
 
-parts-split : {s : List ℕ} (opened closed : ℕ) → Unmarked s → Parts unmarked (splitFrom opened closed s)
+parts-split : {s : List ℕ} (opened closed : ℕ) → Unmarked s → EachPart unmarked (splitFrom opened closed s)
 unfolding splitFrom
 parts-split opened closed done = part done none-left
 parts-split opened closed (more {x} {s} e a) = go (anySide x) (is "," x && eqb opened closed) (λ o c. parts-split o c a)
   where
-    go : (d : Side) (b : Bool) → ((o c : ℕ) → Parts unmarked (splitFrom o c s))
-        → Parts unmarked (elim d as (λ d. List (List ℕ)) [
+    go : (d : Side) (b : Bool) → ((o c : ℕ) → EachPart unmarked (splitFrom o c s))
+        → EachPart unmarked (elim d as (λ d. List (List ℕ)) [
           | opens ↦ pushed x (splitFrom (suc opened) closed s)
           | closes ↦ pushed x (splitFrom opened (suc closed) s)
           | neither ↦ elim b as (λ b. List (List ℕ)) [ true ↦ [] ∷ splitFrom opened closed s | false ↦ pushed x (splitFrom opened closed s) ]
@@ -71,19 +71,19 @@ parts-split opened closed (more {x} {s} e a) = go (anySide x) (is "," x && eqb o
     go neither true next = part done (next opened closed)
     go neither false next = parts-pushed x e (next opened closed)
 
-parts-trim : {ss : List (List ℕ)} → Parts unmarked ss → Parts unmarked (map trim ss)
+parts-trim : {ss : List (List ℕ)} → EachPart unmarked ss → EachPart unmarked (map trim ss)
 parts-trim none-left = none-left
 parts-trim (part a b) = part (trim-unmarked a) (parts-trim b)
 
-parts-nonblank : {ss : List (List ℕ)} → Parts unmarked ss → Parts unmarked (nonblank ss)
+parts-nonblank : {ss : List (List ℕ)} → EachPart unmarked ss → EachPart unmarked (nonblank ss)
 parts-nonblank none-left = none-left
 parts-nonblank (part {s} {ss} a b) = go (empty s) (parts-nonblank b)
   where
-    go : (t : Bool) → Parts unmarked (nonblank ss) → Parts unmarked (elim t as (λ t. List (List ℕ)) [ true ↦ nonblank ss | false ↦ s ∷ nonblank ss ])
+    go : (t : Bool) → EachPart unmarked (nonblank ss) → EachPart unmarked (elim t as (λ t. List (List ℕ)) [ true ↦ nonblank ss | false ↦ s ∷ nonblank ss ])
     go true later = later
     go false later = part a later
 
-parts-joined : {between : List ℕ} {ss : List (List ℕ)} → Unmarked between → Parts unmarked ss → Unmarked (joined between ss)
+parts-joined : {between : List ℕ} {ss : List (List ℕ)} → Unmarked between → EachPart unmarked ss → Unmarked (joined between ss)
 parts-joined c none-left = done
 parts-joined c (part a none-left) = a
 parts-joined c (part a (part b d)) = each-append (each-append a c) (parts-joined c (part b d))

@@ -1,7 +1,7 @@
 -- A test that each symbol of a text passes, and rewritings that keep it so. Assumes nothing.
 --     Each             each symbol passes the test
 --     EachIf           each symbol of a text that may be missing
---     Parts            each symbol of each of some texts
+--     EachPart         each symbol of each of some texts
 --     each-take, ..    so do those of a part, of a text without its ends, and of two texts together
 --     each-sweep       a sweep keeps it, where its rule writes only such symbols
 use mathlib.Core.Path.{_≡_}
@@ -22,9 +22,9 @@ pub data EachIf (f : ℕ → Bool) : Option (List ℕ) → Type 0 where
   nowhere : EachIf f none
   there : {s : List ℕ} → Each f s → EachIf f (some s)
 
-pub data Parts (f : ℕ → Bool) : List (List ℕ) → Type 0 where
-  none-left : Parts f []
-  part : {s : List ℕ} {ss : List (List ℕ)} → Each f s → Parts f ss → Parts f (s ∷ ss)
+pub data EachPart (f : ℕ → Bool) : List (List ℕ) → Type 0 where
+  none-left : EachPart f []
+  part : {s : List ℕ} {ss : List (List ℕ)} → Each f s → EachPart f ss → EachPart f (s ∷ ss)
 
 pub each-by : {f g : ℕ → Bool} → ((x : ℕ) → f x ≡ true → g x ≡ true) → {s : List ℕ} → Each f s → Each g s
 each-by h done = done
@@ -91,17 +91,17 @@ module _ {f : ℕ → Bool} where
 
 -- ---- sweeps
 -- a rule that writes only such symbols
-pub record Keeps (f : ℕ → Bool) (rule : Rule) : Type 0 where
+pub record WritesOnly (f : ℕ → Bool) (rule : Rule) : Type 0 where
   pub writes : (before : ℕ) (s : List ℕ) → Each f s → Each f (rule before s .fresh)
 
 module _ {f : ℕ → Bool} where
-  pub each-sweep : {rule : Rule} → Keeps f rule → {s : List ℕ} (before skip : ℕ) → Each f s → Each f (sweep rule before skip s)
+  pub each-sweep : {rule : Rule} → WritesOnly f rule → {s : List ℕ} (before skip : ℕ) → Each f s → Each f (sweep rule before skip s)
   unfolding sweep
   each-sweep k before skip done = done
   each-sweep {rule} k before zero (more {x} {s} e a) = each-append (k .writes before (x ∷ s) (more e a)) (each-sweep k x (rule before (x ∷ s) .more) a)
   each-sweep k before (suc skip) (more {x} e a) = each-sweep k x skip a
 
-  pub keeps-replacing : (pattern : List ℕ) {fresh : List ℕ} → Each f fresh → Keeps f (replacing pattern fresh)
+  pub keeps-replacing : (pattern : List ℕ) {fresh : List ℕ} → Each f fresh → WritesOnly f (replacing pattern fresh)
   keeps-replacing pattern {fresh} a = record { writes = λ before s b. go (starts pattern s) b }
     where
       go : (t : Bool) {s : List ℕ} → Each f s → Each f (cond t (taken (length pattern) fresh) (kept s) .fresh)

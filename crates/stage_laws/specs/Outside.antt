@@ -16,9 +16,9 @@ use Rattle.spec.specs.Held.{Held, Taken, withText, leaving, taking, takeOut, ho
 use Rattle.spec.specs.Table.{Definition}
 use Rattle.spec.specs.Definitions.{applyDefinition, applyDefinitions, applyDefinitionsOutsideText}
 use Rattle.spec.specs.Laws.Booleans.{or-neither}
-use Rattle.stage_laws.specs.Each.{Each, done, more, Parts, none-left, part, each-by, each-append, each-take, each-reverse, each-replace}
+use Rattle.stage_laws.specs.Each.{Each, done, more, EachPart, none-left, part, each-by, each-append, each-take, each-reverse, each-replace}
 use Rattle.stage_laws.specs.Calls.{unmarked}
-use Rattle.stage_laws.specs.Stages.{Passes, pass, stop}
+use Rattle.stage_laws.specs.Stages.{PassesUnmarked, pass, stop}
 
 abbrev notRoman : ℕ → Bool
 notRoman x = not (eqb x romanMark)
@@ -67,21 +67,21 @@ numbered-plain romans t r (x ∷ s) = go (eqb x textMark) (eqb x romanMark) refl
     go false true e (d ∷ ds) next = each-append (placeholder-plain r) (next ds (t + marks d) (suc r))
     go false false e bs next = more (ap not e) (next bs t r)
 
-restored-plain : (k : ℕ) {bs : List (List ℕ)} {s : List ℕ} → Parts notRoman bs → Each notRoman s → Each notRoman (restored k bs s)
+restored-plain : (k : ℕ) {bs : List (List ℕ)} {s : List ℕ} → EachPart notRoman bs → Each notRoman s → Each notRoman (restored k bs s)
 unfolding restored
 restored-plain k none-left a = a
 restored-plain k (part b bs) a = restored-plain (suc k) bs (each-replace (placeholder k) b a)
 
 -- ---- what is held: `\text` blocks that hold no mark, and no `\mathrm` block
 record OnlyTexts (h : Held) : Type 0 where
-  texts : Parts notRoman (h .texts)
+  texts : EachPart notRoman (h .texts)
   no-romans : h .romans ≡ []
 
 back-plain : (h : Held) → OnlyTexts h → Each notRoman (rustPutBack h)
 unfolding rustPutBack numberedRomans
 back-plain h o = restored-plain 0 (parts-end (h .romans) (h .text) (o .no-romans) (o .texts)) (numbered-plain (h .romans) 0 (length (h .texts)) (h .text))
   where
-    parts-more : {bs cs : List (List ℕ)} → Parts notRoman bs → cs ≡ [] → Parts notRoman (bs ++ cs)
+    parts-more : {bs cs : List (List ℕ)} → EachPart notRoman bs → cs ≡ [] → EachPart notRoman (bs ++ cs)
     parts-more none-left e = rw e none-left
     parts-more (part a b) e = part a (parts-more b e)
 
@@ -89,7 +89,7 @@ back-plain h o = restored-plain 0 (parts-end (h .romans) (h .text) (o .no-romans
     none-numbered romans [] e = e
     none-numbered romans (x ∷ s) e = rw e
 
-    parts-end : {bs : List (List ℕ)} (romans : List (List ℕ)) (s : List ℕ) → romans ≡ [] → Parts notRoman bs → Parts notRoman (bs ++ numberedRomans romans 0 s)
+    parts-end : {bs : List (List ℕ)} (romans : List (List ℕ)) (s : List ℕ) → romans ≡ [] → EachPart notRoman bs → EachPart notRoman (bs ++ numberedRomans romans 0 s)
     parts-end romans s e b = parts-more b (none-numbered romans s e)
 
 no-mark-left : {s : List ℕ} → any (λ x. eqb x textMark) s ≡ false → Each notRoman s → Each unmarked s
@@ -98,11 +98,11 @@ no-mark-left e (more {x} {s} r a) =
     let own = or-neither (eqb x textMark) (any (λ x. eqb x textMark) s) e in
     more (ap not (ap (λ b. b || eqb x romanMark) (own .0) ∙ not-true (eqb x romanMark) r)) (no-mark-left (own .1) a)
 
-back-passes : (h : Held) → OnlyTexts h → Passes (putBack h)
+back-passes : (h : Held) → OnlyTexts h → PassesUnmarked (putBack h)
 unfolding putBack
 back-passes h o = go (any (λ x. eqb x textMark) (rustPutBack h)) refl
   where
-    go : (b : Bool) → any (λ x. eqb x textMark) (rustPutBack h) ≡ b → Passes (cond b (refused 6) (passed (rustPutBack h)))
+    go : (b : Bool) → any (λ x. eqb x textMark) (rustPutBack h) ≡ b → PassesUnmarked (cond b (refused 6) (passed (rustPutBack h)))
     go true e = stop
     go false e = pass (no-mark-left e (back-plain h o))
 
@@ -136,14 +136,14 @@ definitions-holding (d ∷ ds) h o = go (eqb (length (d .name)) 1) (definitions-
 unmarked-not-roman : (x : ℕ) → unmarked x ≡ true → notRoman x ≡ true
 unmarked-not-roman x e = ap not (or-neither (eqb x textMark) (eqb x romanMark) (not-true (eqb x textMark || eqb x romanMark) e) .1)
 
-taken-parts : (name : List ℕ) (mark skip : ℕ) {s : List ℕ} → Each notRoman s → Parts notRoman (takeOut name mark skip s .blocks)
+taken-parts : (name : List ℕ) (mark skip : ℕ) {s : List ℕ} → Each notRoman s → EachPart notRoman (takeOut name mark skip s .blocks)
 unfolding takeOut
 taken-parts name mark skip done = none-left
 taken-parts name mark (suc skip) (more e a) = taken-parts name mark skip a
 taken-parts name mark zero (more {x} {s} e a) = go (starts name (x ∷ s)) (findMatchingBrace (drop (length name) (x ∷ s))) (λ k. taken-parts name mark k a)
   where
-    go : (b : Bool) (o : Option (List ℕ)) → ((k : ℕ) → Parts notRoman (takeOut name mark k s .blocks))
-        → Parts notRoman ((elim b as (λ b. Taken) [
+    go : (b : Bool) (o : Option (List ℕ)) → ((k : ℕ) → EachPart notRoman (takeOut name mark k s .blocks))
+        → EachPart notRoman ((elim b as (λ b. Taken) [
           | true ↦ elim o as (λ o. Taken) [
             | none ↦ record { left = x ∷ s; blocks = [] }
             | some behind ↦ taking mark (until (x ∷ s) behind) (takeOut name mark (length (until s behind)) s)
@@ -154,10 +154,10 @@ taken-parts name mark zero (more {x} {s} e a) = go (starts name (x ∷ s)) (find
     go true (some behind) next = part (each-take (length (x ∷ s) - length behind) (more e a)) (next (length (until s behind)))
     go false o next = next 0
 
-pub outside-passes : (order : List Definition) (s : List ℕ) → Each unmarked s → Passes (applyDefinitionsOutsideText order s)
+pub outside-passes : (order : List Definition) (s : List ℕ) → Each unmarked s → PassesUnmarked (applyDefinitionsOutsideText order s)
 unfolding applyDefinitionsOutsideText holdTexts
 outside-passes order s a = go (definitions-holding order (holdTexts s) (record { texts = taken-parts (bytes "\\text{") textMark 0 (each-by unmarked-not-roman a); no-romans = refl }))
   where
-    go : {r : Result Held} → Holding r → Passes (r then putBack)
+    go : {r : Result Held} → Holding r → PassesUnmarked (r then putBack)
     go (holding {h} o) = back-passes h o
     go stops = stop

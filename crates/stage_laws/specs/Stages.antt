@@ -1,5 +1,5 @@
 -- The text has no mark where definitions and words hold blocks out. Assumes nothing.
---     Passes             what a stage gives, if it gives a text, has no mark
+--     PassesUnmarked     what a stage gives, if it gives a text, has no mark
 --     beforeDefinitions  the stages from the solidus to the quotes
 --     beforeWords        `sqrt`, functions and operators
 use mathlib.Core.Path.{_≡_, refl}
@@ -23,18 +23,18 @@ use Rattle.stage_laws.specs.Each.{Each, each-of, each-append, each-take,
 use Rattle.stage_laws.specs.Calls.{unmarked, inside-unmarked, trim-unmarked, trim-quotes-unmarked, calls-unmarked, around, cases-unmarked, attach-unmarked, binom-unmarked}
 use Rattle.stage_laws.specs.Quotes.{quotes-unmarked}
 
-pub data Passes : Result (List ℕ) → Type 0 where
-  pass : {s : List ℕ} → Each unmarked s → Passes (passed s)
-  stop : {n : ℕ} → Passes (refused n)
+pub data PassesUnmarked : Result (List ℕ) → Type 0 where
+  pass : {s : List ℕ} → Each unmarked s → PassesUnmarked (passed s)
+  stop : {n : ℕ} → PassesUnmarked (refused n)
 
-then-passes : {r : Result (List ℕ)} (f : List ℕ → Result (List ℕ)) → Passes r → ((s : List ℕ) → Each unmarked s → Passes (f s)) → Passes (r then f)
+then-passes : {r : Result (List ℕ)} (f : List ℕ → Result (List ℕ)) → PassesUnmarked r → ((s : List ℕ) → Each unmarked s → PassesUnmarked (f s)) → PassesUnmarked (r then f)
 then-passes f (pass {s} a) next = next s a
 then-passes f stop next = stop
 
-stage-passes : (f : List ℕ → List ℕ) → ((s : List ℕ) → Each unmarked s → Each unmarked (f s)) → (s : List ℕ) → Each unmarked s → Passes (stage f s)
+stage-passes : (f : List ℕ → List ℕ) → ((s : List ℕ) → Each unmarked s → Each unmarked (f s)) → (s : List ℕ) → Each unmarked s → PassesUnmarked (stage f s)
 stage-passes f keeps s a = go (ltb mostSymbols (length (f s)))
   where
-    go : (b : Bool) → Passes (cond b (refused 5) (passed (f s)))
+    go : (b : Bool) → PassesUnmarked (cond b (refused 5) (passed (f s)))
     go true = stop
     go false = pass (keeps s a)
 
@@ -54,15 +54,15 @@ beforeDefinitions s =
 
 -- a call whose inside is written between two constant texts
 call-passes : (name left right : List ℕ) → all unmarked left ≡ true → all unmarked right ≡ true → (write : List ℕ → List ℕ) → ((s : List ℕ) → Each unmarked s → Each unmarked (write s))
-    → (s : List ℕ) → Each unmarked s → Passes (stage (convertCalls name (λ inner. left ++ write inner ++ right)) s)
+    → (s : List ℕ) → Each unmarked s → PassesUnmarked (stage (convertCalls name (λ inner. left ++ write inner ++ right)) s)
 call-passes name left right l r write w =
     stage-passes (convertCalls name (λ inner. left ++ write inner ++ right))
     (λ s. calls-unmarked name (λ inner. left ++ write inner ++ right) (λ inner a. around left right (each-of left l) (each-of right r) (w inner a)))
 
-whole-passes : (name left right : List ℕ) → all unmarked left ≡ true → all unmarked right ≡ true → (s : List ℕ) → Each unmarked s → Passes (stage (convertCalls name (λ inner. left ++ inner ++ right)) s)
+whole-passes : (name left right : List ℕ) → all unmarked left ≡ true → all unmarked right ≡ true → (s : List ℕ) → Each unmarked s → PassesUnmarked (stage (convertCalls name (λ inner. left ++ inner ++ right)) s)
 whole-passes name left right l r = call-passes name left right l r (λ inner. inner) (λ inner a. a)
 
-floor-ceil-abs-passes : (s : List ℕ) → Each unmarked s → Passes (convertFloorCeilAbs s)
+floor-ceil-abs-passes : (s : List ℕ) → Each unmarked s → PassesUnmarked (convertFloorCeilAbs s)
 floor-ceil-abs-passes s a =
     then-passes _ (then-passes _ (then-passes _ (then-passes _ (then-passes _
     (whole-passes (bytes "floor(") (bytes "\\left\\lfloor ") (bytes " \\right\\rfloor") refl refl s a)
@@ -72,7 +72,7 @@ floor-ceil-abs-passes s a =
     (whole-passes (bytes "frak(") (bytes "\\mathfrak{") (bytes "}") refl refl))
     (whole-passes (bytes "upright(") (bytes "\\mathrm{") (bytes "}") refl refl)
 
-pub before-definitions-passes : (s : List ℕ) → Each unmarked s → Passes (beforeDefinitions s)
+pub before-definitions-passes : (s : List ℕ) → Each unmarked s → PassesUnmarked (beforeDefinitions s)
 before-definitions-passes s a =
     then-passes _ (then-passes _ (then-passes _ (then-passes _ (then-passes _ (then-passes _ (then-passes _ (then-passes _ (then-passes _
     (stage-passes markSolidus (λ t. each-replace (bytes "\\/") (each-of (solidus ∷ []) refl)) s a)
@@ -104,7 +104,7 @@ abbrev fine : List Row → Bool
 fine [] = true
 fine (r ∷ rs) = all unmarked (r .latex) && fine rs
 
-rows-passes : (rs : List Row) → fine rs ≡ true → (s : List ℕ) → Each unmarked s → Passes (replaceRows rs s)
+rows-passes : (rs : List Row) → fine rs ≡ true → (s : List ℕ) → Each unmarked s → PassesUnmarked (replaceRows rs s)
 unfolding replaceRows
 rows-passes [] e s a = pass a
 rows-passes (r ∷ rs) e s a =
@@ -112,5 +112,5 @@ rows-passes (r ∷ rs) e s a =
     (stage-passes (replace (r .typst) (r .latex)) (λ t. each-replace (r .typst) (each-of (r .latex) (and-left (all unmarked (r .latex)) (fine rs) e))) s a)
     (rows-passes rs (and-right (all unmarked (r .latex)) (fine rs) e))
 
-pub before-words-passes : (s : List ℕ) → Each unmarked s → Passes (beforeWords s)
+pub before-words-passes : (s : List ℕ) → Each unmarked s → PassesUnmarked (beforeWords s)
 before-words-passes s a = then-passes _ (then-passes _ (stage-passes convertSqrt (λ t. sqrt-unmarked) s a) (rows-passes functionMappings refl)) (rows-passes operatorReplacements refl)

@@ -1,8 +1,8 @@
 // Runs functions of the Rust, each by itself, on lines of standard input, and writes what becomes of each line. A line that begins
 // with `#` is a heading: it begins the next section. Sections 1 to 19 are stages in the Rust's order, 20 to 25 closing and comma
 // searches, and the last one is the plain check. What `oracle/run stages` writes for the same lines is the file `stdout`.
-use search::Found;
 use text::Progress;
+use text_search::Found;
 ghost use Prim.Native.Nat.{_≤_};
 ghost use lib.ListN.{length};
 ghost use Rattle.text.specs.Stage.{Ready};
@@ -12,14 +12,14 @@ fn convert(work: &mut [u8], section: usize, text: Progress) -> Progress
     ensures { λ r. ⌜ Ready (now (work .exit)) r ⌝ }
 {
     match section {
-        1 => calls::convert_op(work, text),
+        1 => call_single::convert_op(work, text),
         2 => cases::convert_cases(work, text),
         3 => attach::convert_attach(work, text),
-        4 => calls::convert_bb(work, text),
-        5 => calls::convert_bold(work, text),
+        4 => call_single::convert_bb(work, text),
+        5 => call_single::convert_bold(work, text),
         6 => binom::convert_binom(work, text),
-        7 => calls::convert_upright(work, text),
-        8 => calls::convert_floor_ceil_abs(work, text),
+        7 => call_single::convert_upright(work, text),
+        8 => call_single::convert_floor_ceil_abs(work, text),
         9 => quotes::convert_text_quotes(work, text),
         _ => convert_syntax(work, section, text),
     }
@@ -31,12 +31,12 @@ fn convert_syntax(work: &mut [u8], section: usize, text: Progress) -> Progress
     ensures { λ r. ⌜ Ready (now (work .exit)) r ⌝ }
 {
     match section {
-        10 => rewrite::convert_sqrt(work, text),
-        11 => words::convert_greek_capitals(work, text),
+        10 => pattern_rewriting::convert_sqrt(work, text),
+        11 => name_words::convert_greek_capitals(work, text),
         12 => scripts::convert_subscripts(work, text),
         13 => scripts::convert_superscripts(work, text),
         14 => fractions::convert_fractions(work, text),
-        15 => finish::escape_set_braces(work, text),
+        15 => escapes::escape_set_braces(work, text),
         16 => lr::convert_lr(work, text),
         17 => sizing::size_delimiters_to_content(work, text),
         18 => layout::convert_alignment(work, text),
@@ -48,12 +48,12 @@ fn search(section: usize, s: &[u8]) -> Found
     requires { ⌜ length (now s) ≤ 8192 ⌝ }
 {
     match section {
-        20 => closing::find_matching_paren(s),
-        21 => closing::find_matching_brace(s),
-        22 => closing::matching_delimiter(s, b'(', b')'),
-        23 => commas::find_comma_in_args(s),
-        24 => commas::find_unescaped_comma(s),
-        _ => Found::At(commas::split_top_level_commas(s, 0)),
+        20 => text_closing::find_matching_paren(s),
+        21 => text_closing::find_matching_brace(s),
+        22 => text_closing::matching_delimiter(s, b'(', b')'),
+        23 => call_commas::find_comma_in_args(s),
+        24 => call_commas::find_unescaped_comma(s),
+        _ => Found::At(call_commas::split_top_level_commas(s, 0)),
     }
 }
 
@@ -83,12 +83,12 @@ fn show_place(found: Found) {
     }
 }
 
-fn show_atoms(answer: plain::Answer) {
+fn show_atoms(answer: plain_check::PlainAnswer) {
     match answer {
-        plain::Answer::Yes(n) => {
+        plain_check::PlainAnswer::Yes(n) => {
             io::print_decimal(1, n as u64);
         }
-        plain::Answer::No => {
+        plain_check::PlainAnswer::No => {
             io::write_all(1, b"no");
         }
     }
@@ -105,7 +105,7 @@ fn run(work: &mut [u8], section: usize, formula: &[u8])
 
 fn answer(section: usize, s: &[u8]) {
     if 25 < section {
-        show_atoms(plain::plain_check(s));
+        show_atoms(plain_check::plain_check(s));
         return;
     }
     if text::CAP < s.len() {
@@ -124,7 +124,7 @@ fn answer(section: usize, s: &[u8]) {
 fn line(s: &[u8]) -> usize
     ensures { λ r. ⌜ r ≤ length (now (s .entry)) ⌝ }
 {
-    match search::find(s, b"\n") {
+    match text_search::find(s, b"\n") {
         Found::At(k) => k,
         Found::Nothing => s.len(),
     }

@@ -20,13 +20,13 @@ use Rattle.spec.specs.Laws.Booleans.{or-neither}
 use Rattle.text.specs.Stage.{shown, Ready, Answered, Staged, answered-ready, answered-then, staged-then}
 use Rattle.text.specs.declared.Progress.{Progress}
 use Rattle.text.specs.declared.Progress.the-variants.{Text, Refused}
-use Rattle.symbols.specs.Parts.{part}
-use Rattle.blocks.specs.Outside.{Unmarked}
+use Rattle.text_symbols.specs.Parts.{part}
+use Rattle.held_stages.specs.Outside.{UnmarkedProgress}
 use Rattle.held_laws.specs.Marks.{isMark, hasMark}
 use Rattle.stage_laws.specs.Each.{Each, done, more}
 use Rattle.stage_laws.specs.Calls.{unmarked}
-use Rattle.stage_laws.specs.Stages.{Passes, pass, stop, beforeDefinitions, beforeWords}
-use Rattle.stages.specs.Fit.{Bare, Fit}
+use Rattle.stage_laws.specs.Stages.{PassesUnmarked, pass, stop, beforeDefinitions, beforeWords}
+use Rattle.stages.specs.Fit.{Bare, Admissible}
 
 pub staged-ready : {w w′ : List ℕ} {p p′ : Progress} {f : List ℕ → Result (List ℕ)} → Ready w p → Staged w w′ p p′ f → Ready w′ p′
 staged-ready r s = answered-ready r (s .answered)
@@ -40,22 +40,22 @@ bare-each : (s : List ℕ) → hasMark s ≡ false → Each unmarked s
 bare-each [] e = done
 bare-each (x ∷ s) e = let parts = or-neither (isMark x) (hasMark s) e in more (ap not (parts .0)) (bare-each s (parts .1))
 
-passes-bare : {r : Result (List ℕ)} → Passes r → Bare r
+passes-bare : {r : Result (List ℕ)} → PassesUnmarked r → Bare r
 passes-bare (pass {s} a) = record { unmarked = λ t e. let same : s ≡ t = cc in subst (λ u. hasMark u ≡ false) same (each-bare a) }
 passes-bare (stop {n}) = record { unmarked = λ t e. absurd (differ e) }
   where
     differ : {t : List ℕ} → refused n ≡ passed t → ⊥
     differ e = let z : _≡_ {A = ℕ} 0 1 = cc in omega arith
 
-module _ {w w′ : List ℕ} {p p′ : Progress} {f : List ℕ → Result (List ℕ)} (keeps : (s : List ℕ) → Each unmarked s → Passes (f s)) (a : Answered w w′ p p′ f) where
+module _ {w w′ : List ℕ} {p p′ : Progress} {f : List ℕ → Result (List ℕ)} (keeps : (s : List ℕ) → Each unmarked s → PassesUnmarked (f s)) (a : Answered w w′ p p′ f) where
   pub bare-after : Bare (shown p w) → Bare (shown p′ w′)
   bare-after b = subst Bare (sym (a .answer)) (passes-bare (go (shown p w) b))
     where
-      go : (r : Result (List ℕ)) → Bare r → Passes (r then f)
+      go : (r : Result (List ℕ)) → Bare r → PassesUnmarked (r then f)
       go (passed s) b = keeps s (bare-each s (b .unmarked s refl))
       go (refused n) b = stop
 
-  pub fit-after : {table : List ℕ} → Fit table (shown p w) → Fit table (shown p′ w′)
+  pub fit-after : {table : List ℕ} → Admissible table (shown p w) → Admissible table (shown p′ w′)
   fit-after {table} b = record { bare = bare-after (b .bare); sound = λ s e. go (shown p w) (b .sound) (sym (a .answer) ∙ e) }
     where
       go : {s : List ℕ} (r : Result (List ℕ)) → ((t : List ℕ) → r ≡ passed t → definitions table ≡ some (definitionsOr table)) → (r then f) ≡ passed s → definitions table ≡ some (definitionsOr table)
@@ -63,14 +63,14 @@ module _ {w w′ : List ℕ} {p p′ : Progress} {f : List ℕ → Result (List 
       go (refused n) sound e = absurd (let z : _≡_ {A = ℕ} 0 1 = cc in omega arith)
 
 -- ---- what definitions and words ask
-pub bare-unmarked : (w : List ℕ) (p : Progress) → Bare (shown p w) → Unmarked w p
+pub bare-unmarked : (w : List ℕ) (p : Progress) → Bare (shown p w) → UnmarkedProgress w p
 bare-unmarked w (Text at n) b = b .unmarked (part at n w) refl
 bare-unmarked w (Refused k) b = tt
 
-pub unmarked-after : {w w′ : List ℕ} {p p′ : Progress} {f : List ℕ → Result (List ℕ)} → ((s : List ℕ) → Each unmarked s → Passes (f s)) → Answered w w′ p p′ f → Bare (shown p w) → Unmarked w′ p′
+pub unmarked-after : {w w′ : List ℕ} {p p′ : Progress} {f : List ℕ → Result (List ℕ)} → ((s : List ℕ) → Each unmarked s → PassesUnmarked (f s)) → Answered w w′ p p′ f → Bare (shown p w) → UnmarkedProgress w′ p′
 unmarked-after {w′ = w′} {p′ = p′} keeps a b = bare-unmarked w′ p′ (bare-after keeps a b)
 
-pub fit-sound : (w : List ℕ) {table : List ℕ} {p : Progress} {at n : ℕ} → p ≡ Text at n → Fit table (shown p w) → definitions table ≡ some (definitionsOr table)
+pub fit-sound : (w : List ℕ) {table : List ℕ} {p : Progress} {at n : ℕ} → p ≡ Text at n → Admissible table (shown p w) → definitions table ≡ some (definitionsOr table)
 fit-sound w {at = at} {n} e fit = fit .sound (part at n w) (ap (λ q. shown q w) e)
 
 -- ---- the stages of the display

@@ -12,21 +12,21 @@ use lib.Dec.{eqb}
 use lib.ListN.{length}
 use borrow.Author.Tests.{eq-eqb, ne-eqb}
 use Rattle.spec.specs.Table.{Definition}
-use Rattle.table.specs.Reading.{Lies, Short, Stands, definitionAt}
+use Rattle.table.specs.Reading.{Lies, Short, ReadingLies, definitionAt}
 use Rattle.table.specs.Listed.{listed}
 use Rattle.table.specs.declared.Record.{Record}
 use Rattle.table.specs.declared.Reading.{Reading}
 use Rattle.table.specs.declared.Reading.the-variants.{Whole, End, PastEnd}
 use Rattle.table.specs.declared.order.Cursor.{Cursor}
-use Rattle.table.specs.declared.order.Step.{Step}
-use Rattle.table.specs.declared.order.Step.the-variants.{Next, Done}
+use Rattle.table.specs.declared.order.NextRecord.{NextRecord}
+use Rattle.table.specs.declared.order.NextRecord.the-variants.{Next, Done}
 
-abbrev pub size : Definition → ℕ
-size d = length (d .name)
+abbrev pub nameSize : Definition → ℕ
+nameSize d = length (d .name)
 
 abbrev pub ofLength : ℕ → List Definition → List Definition
 ofLength n [] = []
-ofLength n (d ∷ ds) = elim (eqb (size d) n) [ true ↦ d ∷ ofLength n ds | false ↦ ofLength n ds ]
+ofLength n (d ∷ ds) = elim (eqb (nameSize d) n) [ true ↦ d ∷ ofLength n ds | false ↦ ofLength n ds ]
 
 -- those of n bytes of the first list, then those of fewer bytes of the second, the longer ones first
 abbrev pub downFrom : ℕ → List Definition → List Definition → List Definition
@@ -39,7 +39,7 @@ remaining s c = downFrom (c .length) (listed s (c .at)) (listed s 0)
 -- the length of the longest name, if that is m at the least
 abbrev pub longest : ℕ → List Definition → ℕ
 longest m [] = m
-longest m (d ∷ ds) = longest (max m (size d)) ds
+longest m (d ∷ ds) = longest (max m (nameSize d)) ds
 
 -- ---- what the functions ensure
 -- of `Cursor::start`, for any table: it begins with the longest name, at the table's start. Of a sound one all of the order is left
@@ -48,34 +48,34 @@ pub record Begins (s : List ℕ) (c : Cursor) : Type 0 where
   pub length : c .length ≡ longest 0 (listed s 0)
   pub at : c .at ≡ 0
 
-abbrev pub onward : List ℕ → Step → List Definition
-onward s (Next r c) = definitionAt s r ∷ remaining s c
-onward s Done = []
+abbrev pub definitionsOnward : List ℕ → NextRecord → List Definition
+definitionsOnward s (Next r c) = definitionAt s r ∷ remaining s c
+definitionsOnward s Done = []
 
 -- the record of a step lies in the table
-pub data Taken (s : List ℕ) : Step → Type 0 where
-  taken : {r : Record} {c : Cursor} → Lies s r → Short r → Taken s (Next r c)
-  done : Taken s Done
+pub data NextLies (s : List ℕ) : NextRecord → Type 0 where
+  taken : {r : Record} {c : Cursor} → Lies s r → Short r → NextLies s (Next r c)
+  done : NextLies s Done
 
-taken-lies : {s : List ℕ} {r : Record} {c : Cursor} → Taken s (Next r c) → Lies s r
+taken-lies : {s : List ℕ} {r : Record} {c : Cursor} → NextLies s (Next r c) → Lies s r
 taken-lies (taken l h) = l
 
-taken-short : {s : List ℕ} {r : Record} {c : Cursor} → Taken s (Next r c) → Short r
+taken-short : {s : List ℕ} {r : Record} {c : Cursor} → NextLies s (Next r c) → Short r
 taken-short (taken l h) = h
 
 -- of `Cursor::next`: the first of what is left, and the rest. A record counts by its definition, a cursor by what it leaves: where
 -- they stand is open beyond that
-pub record Steps (s : List ℕ) (c : Cursor) (r : Step) : Type 0 where
-  pub left : remaining s c ≡ onward s r
-  pub lies : Taken s r
+pub record Steps (s : List ℕ) (c : Cursor) (r : NextRecord) : Type 0 where
+  pub left : remaining s c ≡ definitionsOnward s r
+  pub lies : NextLies s r
 
 -- what a step tells
-module _ {s : List ℕ} {c : Cursor} {x : Step} where
+module _ {s : List ℕ} {c : Cursor} {x : NextRecord} where
   pub steps-next : {r : Record} {c′ : Cursor} → Steps s c x → x ≡ Next r c′ → remaining s c ≡ definitionAt s r ∷ remaining s c′
-  steps-next step e = step .left ∙ ap (onward s) e
+  steps-next step e = step .left ∙ ap (definitionsOnward s) e
 
   pub steps-done : Steps s c x → x ≡ Done → remaining s c ≡ []
-  steps-done step e = step .left ∙ ap (onward s) e
+  steps-done step e = step .left ∙ ap (definitionsOnward s) e
 
   pub steps-lies : {r : Record} {c′ : Cursor} → Steps s c x → x ≡ Next r c′ → Lies s r
   steps-lies step e = taken-lies (rw e at (step .lies))
@@ -91,14 +91,14 @@ picked s n PastEnd = []
 
 pub record Picks (s : List ℕ) (at n : ℕ) (r : Reading) : Type 0 where
   pub left : ofLength n (listed s at) ≡ picked s n r
-  pub stands : Stands s r
+  pub stands : ReadingLies s r
 
 -- ---- the records of one length
-pub of-length-other : (n : ℕ) (d : Definition) (ds : List Definition) → (size d ≡ n → ⊥) → ofLength n (d ∷ ds) ≡ ofLength n ds
-of-length-other n d ds h = rw (ne-eqb (size d) n h, ofLength)
+pub of-length-other : (n : ℕ) (d : Definition) (ds : List Definition) → (nameSize d ≡ n → ⊥) → ofLength n (d ∷ ds) ≡ ofLength n ds
+of-length-other n d ds h = rw (ne-eqb (nameSize d) n h, ofLength)
 
-pub of-length-same : (n : ℕ) (d : Definition) (ds : List Definition) → size d ≡ n → ofLength n (d ∷ ds) ≡ d ∷ ofLength n ds
-of-length-same n d ds h = rw (eq-eqb (size d) n h, ofLength)
+pub of-length-same : (n : ℕ) (d : Definition) (ds : List Definition) → nameSize d ≡ n → ofLength n (d ∷ ds) ≡ d ∷ ofLength n ds
+of-length-same n d ds h = rw (eq-eqb (nameSize d) n h, ofLength)
 
 -- ---- going on
 module _ (n : ℕ) (now all : List Definition) (more : 0 < n) where

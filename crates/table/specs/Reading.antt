@@ -16,7 +16,7 @@ use lib.Seq.{drop-drop}
 use borrow.Author.Tests.{leb-true, leb-false, ltb-true, ltb-false, le-leb, lt-leb, lt-ltb, le-ltb}
 use Rattle.spec.specs.Laws.Symbols.{drop-step}
 use Rattle.spec.specs.Table.{Definition, nameLength, latexLength, definitionOf, record-before, records}
-use Rattle.symbols.specs.Parts.{part, length-part}
+use Rattle.text_symbols.specs.Parts.{part, length-part}
 use Rattle.table.specs.Records.{records-none, records-cut, records-cons}
 use Rattle.table.specs.declared.Record.{Record}
 use Rattle.table.specs.declared.Reading.{Reading}
@@ -56,20 +56,20 @@ pub record Short (r : Record) : Type 0 where
   pub latex : r .next ≤ r .latex + mostLatex
 
 -- the same of a reading: it says nothing where there is no record
-pub data Stands (s : List ℕ) : Reading → Type 0 where
-  whole : {r : Record} → Lies s r → Short r → Stands s (Whole r)
-  end : Stands s End
-  past-end : Stands s PastEnd
+pub data ReadingLies (s : List ℕ) : Reading → Type 0 where
+  whole : {r : Record} → Lies s r → Short r → ReadingLies s (Whole r)
+  end : ReadingLies s End
+  past-end : ReadingLies s PastEnd
 
 -- what `record_at` ensures
 pub record Reads (s : List ℕ) (at : ℕ) (r : Reading) : Type 0 where
   pub read : r ≡ readAt s at
-  pub stands : Stands s r
+  pub stands : ReadingLies s r
 
-pub stands-short : {s : List ℕ} {r : Record} → Stands s (Whole r) → Short r
+pub stands-short : {s : List ℕ} {r : Record} → ReadingLies s (Whole r) → Short r
 stands-short (whole l h) = h
 
-pub stands-lies : {s : List ℕ} {r : Record} → Stands s (Whole r) → Lies s r
+pub stands-lies : {s : List ℕ} {r : Record} → ReadingLies s (Whole r) → Lies s r
 stands-lies (whole l h) = l
 
 abbrev pub definitionAt : List ℕ → Record → Definition

@@ -2,7 +2,7 @@
 mod order;
 
 pub use order::Cursor;
-pub use order::Step;
+pub use order::NextRecord;
 ghost use Rattle.table.specs.Reading.{Reads};
 
 // A record's places in the table: the name lies from `name` to `latex`, the LaTeX from there to `next`, where the next record begins.
@@ -29,8 +29,8 @@ pub fn record_at(table: &[u8], at: usize) -> Reading
     if table.len() - at < 2 {
         return Reading::PastEnd;
     }
-    let high = symbols::wide(table[at]);
-    let low = symbols::wide(table[at + 1]);
+    let high = text_symbols::wide(table[at]);
+    let low = text_symbols::wide(table[at + 1]);
     let name_length = high / 4;
     let latex_length = (high % 4) * 256 + low;
     let name = at + 2;

@@ -13,7 +13,7 @@ pub struct Cursor {
     pub at: usize,
 }
 
-pub enum Step {
+pub enum NextRecord {
     Next(Record, Cursor),
     Done,
 }
@@ -30,14 +30,14 @@ impl Cursor {
     }
 
     // The next record of the order, and how far that goes.
-    pub fn next(self, table: &[u8]) -> Step
+    pub fn next(self, table: &[u8]) -> NextRecord
         ensures { λ r. ⌜ Steps (now (table .entry)) self r ⌝ }
     {
         let mut length = self.length;
         let mut at = self.at;
         while 0 < length {
             if let Reading::Whole(found) = record_of_length(table, at, length) {
-                return Step::Next(
+                return NextRecord::Next(
                     found,
                     Cursor {
                         length,
@@ -48,7 +48,7 @@ impl Cursor {
             length -= 1;
             at = 0;
         }
-        Step::Done
+        NextRecord::Done
     }
 }
 

@@ -1,8 +1,8 @@
 // Number 3: what makes a table faulty. The records are counted first, so that what follows looks at no more than 64.
-use symbols::Class;
 use table::Reading;
 use table::Record;
 use table::record_at;
+use text_symbols::Class;
 ghost use mathlib.Core.Path.{_≡_};
 ghost use Rattle.spec.specs.Table.{records, definitions, faultyName, faultyLatex, named, faulty};
 ghost use Rattle.table.specs.Reading.{Lies, definitionAt};
@@ -87,17 +87,17 @@ fn is_faulty_record(table: &[u8], found: Record) -> bool
 fn is_faulty_name(name: &[u8]) -> bool
     ensures { λ r. ⌜ r ≡ faultyName (now (name .entry)) ⌝ }
 {
-    if !symbols::is_letter(search::symbol(name, 0)) {
+    if !text_symbols::is_letter(text_search::symbol(name, 0)) {
         return true;
     }
-    !symbols::all_in(name, Class::Alnum)
+    !text_symbols::all_in(name, Class::Alnum)
 }
 
 // Whether a byte of the LaTeX is foreign or `$`.
 fn is_faulty_latex(latex: &[u8]) -> bool
     ensures { λ r. ⌜ r ≡ faultyLatex (now (latex .entry)) ⌝ }
 {
-    !symbols::all_in(latex, Class::Latex)
+    !text_symbols::all_in(latex, Class::Latex)
 }
 
 // Whether a record from the place on has the name.
@@ -111,7 +111,7 @@ fn is_named(table: &[u8], from: usize, name: &[u8]) -> bool
         };
         let start = found.name;
         let end = found.latex;
-        if search::is_same(name, &table[start..end]) {
+        if text_search::is_same(name, &table[start..end]) {
             return true;
         }
         at = found.next;

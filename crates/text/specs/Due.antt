@@ -12,10 +12,10 @@ use native.Mathlib.Omega.{arith}
 use lib.ListN.{length, drop, length-take}
 use Rattle.spec.specs.Result.{Result, passed, _then_, mostSymbols, grown, stage}
 use Rattle.spec.specs.Symbols.{find}
-use Rattle.symbols.specs.Parts.{part, length-part, whole-part}
-use Rattle.search.specs.Search.{Finds, finds-at, finds-within, finds-nothing}
-use Rattle.search.specs.declared.Found.{Found}
-use Rattle.search.specs.declared.Found.the-variants.{At, Nothing as NotFound}
+use Rattle.text_symbols.specs.Parts.{part, length-part, whole-part}
+use Rattle.text_search.specs.Search.{Finds, finds-at, finds-within, finds-nothing}
+use Rattle.text_search.specs.declared.Found.{Found}
+use Rattle.text_search.specs.declared.Found.the-variants.{At, Nothing as NotFound}
 use Rattle.text.specs.Writer.{Appended, Regions}
 use Rattle.text.specs.Written.{Written, appended-written, wrote-beyond}
 use Rattle.text.specs.Stage.{Placed, Ready, Staged, shown, judged, grown-short, placed-text, placed-regions, staged-same, staged-written}
@@ -88,31 +88,31 @@ module _ {w pattern : List ℕ} {p : Progress} {r : Due} (awaited : Awaited w p 
 
   -- ---- the text is rewritten
   module _ {from n to i : ℕ} (e : r ≡ Rewrite from n to i) where
-    pub occurs : Occurs w p pattern from n to i
-    occurs = subst (Told w p pattern) e (awaited .told)
+    pub pattern-occurs : Occurs w p pattern from n to i
+    pattern-occurs = subst (Told w p pattern) e (awaited .told)
 
     -- the stage leaves the text as it is, though the pattern stands there
     pub staged-kept : (f : List ℕ → List ℕ) → f (part from n w) ≡ part from n w → Staged w w p p (stage f)
-    staged-kept f same = subst (λ q. Staged w w p q (stage f)) (sym (occurs .text)) (staged-same (awaited .ready) (occurs .text) f same)
+    staged-kept f same = subst (λ q. Staged w w p q (stage f)) (sym (pattern-occurs .text)) (staged-same (awaited .ready) (pattern-occurs .text) f same)
 
     module _ {w′ : List ℕ} {count : ℕ} where
       pub staged-rewritten : {p′ : Progress} (f : List ℕ → List ℕ) → Written w w′ to 8192 count (f (part from n w)) → p′ ≡ judged to count → Staged w w′ p p′ (stage f)
       staged-rewritten f written j =
-          let o = occurs .other in
-          staged-written (awaited .ready) (occurs .text) f (rw o at written) refl (j ∙ ap (λ at. judged at count) o)
+          let o = pattern-occurs .other in
+          staged-written (awaited .ready) (pattern-occurs .text) f (rw o at written) refl (j ∙ ap (λ at. judged at count) o)
 
       -- the same of a text that has been appended to none
       pub staged-appended : {p′ : Progress} (f : List ℕ → List ℕ) → Appended w w′ to 8192 0 count (f (part from n w)) → p′ ≡ judged to count → Staged w w′ p p′ (stage f)
-      staged-appended f a = staged-rewritten f (appended-written a (occurs .regions .region))
+      staged-appended f a = staged-rewritten f (appended-written a (pattern-occurs .regions .region))
 
       -- the stage has written to the other region, and comes to p′
       pub staged-answer : {t : List ℕ} {p′ : Progress} (f : List ℕ → Result (List ℕ)) → Appended w w′ to 8192 0 count t → shown p′ w′ ≡ f (part from n w) → Placed p′ → Staged w w′ p p′ f
       staged-answer f a answer placed =
-          let wrote = appended-written a (occurs .regions .region) .wrote in let o = occurs .other in
+          let wrote = appended-written a (pattern-occurs .regions .region) .wrote in let o = pattern-occurs .other in
           record {
-            answered = record { answer = answer ∙ sym (ap (λ q. shown q w then f) (occurs .text)); long = wrote .long; placed = placed };
+            answered = record { answer = answer ∙ sym (ap (λ q. shown q w then f) (pattern-occurs .text)); long = wrote .long; placed = placed };
             beyond = wrote-beyond {k = 16384} wrote (omega arith);
           }
 
     pub other-placed : (to ≡ 0) ⊎ (to ≡ mostSymbols)
-    other-placed = let o = occurs .other in ⊎-elim (λ z. inr (omega arith)) (λ z. inl (omega arith)) (placed-text (awaited .ready) (occurs .text) .0)
+    other-placed = let o = pattern-occurs .other in ⊎-elim (λ z. inr (omega arith)) (λ z. inl (omega arith)) (placed-text (awaited .ready) (pattern-occurs .text) .0)

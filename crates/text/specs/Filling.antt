@@ -4,17 +4,17 @@ use mathlib.Core.Path.{_≡_, refl, sym, ap, _∙_, subst}
 use mathlib.Core.List.{List, [], _++_, append-assoc, append-nil}
 use Prim.Native.Nat.{ℕ, _+_, _-_, _<_}
 use lib.ListN.{getD}
-use Rattle.symbols.specs.Parts.{part, getD-part, whole-part}
+use Rattle.text_symbols.specs.Parts.{part, getD-part, whole-part}
 use Rattle.text.specs.Writer.{Appended, Apart, appended-none, appended-more, appended-part}
 
 -- it began with the buffer w₀ and with `count₀` symbols written
 pub record Filling (w₀ w : List ℕ) (to cap count₀ count : ℕ) (rest whole : List ℕ) : Type 0 where
   pub out : List ℕ
   pub appended : Appended w₀ w to cap count₀ count out
-  pub so-far : out ++ rest ≡ whole
+  pub same-as-whole : out ++ rest ≡ whole
 
 pub filling-none : (w : List ℕ) (to cap count : ℕ) (whole : List ℕ) → Filling w w to cap count count whole whole
-filling-none w to cap count whole = record { out = []; appended = appended-none w to cap count; so-far = refl }
+filling-none w to cap count whole = record { out = []; appended = appended-none w to cap count; same-as-whole = refl }
 
 module _ {w₀ w : List ℕ} {to cap count₀ count : ℕ} {rest whole : List ℕ} (f : Filling w₀ w to cap count₀ count rest whole) where
   pub filling-more : {w′ : List ℕ} {count′ : ℕ} {bs rest′ : List ℕ} → Appended w w′ to cap count count′ bs → rest ≡ bs ++ rest′ → Filling w₀ w′ to cap count₀ count′ rest′ whole
@@ -22,11 +22,11 @@ module _ {w₀ w : List ℕ} {to cap count₀ count : ℕ} {rest whole : List �
       record {
         out = f .out ++ bs;
         appended = appended-more (f .appended) a;
-        so-far = append-assoc (f .out) bs rest′ ∙ ap (λ r. f .out ++ r) (sym e) ∙ f .so-far;
+        same-as-whole = append-assoc (f .out) bs rest′ ∙ ap (λ r. f .out ++ r) (sym e) ∙ f .same-as-whole;
       }
 
   pub filling-all : rest ≡ [] → Appended w₀ w to cap count₀ count whole
-  filling-all e = subst (Appended w₀ w to cap count₀ count) (sym (append-nil (f .out)) ∙ ap (λ r. f .out ++ r) (sym e) ∙ f .so-far) (f .appended)
+  filling-all e = subst (Appended w₀ w to cap count₀ count) (sym (append-nil (f .out)) ∙ ap (λ r. f .out ++ r) (sym e) ∙ f .same-as-whole) (f .appended)
 
   -- the source is read as it was: all of it, and a symbol
   module _ (from n : ℕ) (apart : Apart from n to cap) where

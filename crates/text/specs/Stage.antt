@@ -15,7 +15,7 @@ use lib.Dec.{ltb}
 use lib.ListN.{length, drop}
 use borrow.Author.Tests.{lt-ltb, le-ltb}
 use Rattle.spec.specs.Result.{Result, passed, refused, _then_, mostSymbols, grown, stage}
-use Rattle.symbols.specs.Parts.{part, length-part}
+use Rattle.text_symbols.specs.Parts.{part, length-part}
 use Rattle.text.specs.Writer.{Regions}
 use Rattle.text.specs.Written.{Written, wrote-text, wrote-beyond}
 use Rattle.text.specs.declared.Refusal.{Refusal}

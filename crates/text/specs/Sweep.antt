@@ -11,7 +11,7 @@ use lib.ListN.{length, getD, take, drop, length-take}
 use Rattle.spec.specs.Sweep.{Turn, Rule, kept, sweep}
 use Rattle.spec.specs.Laws.Symbols.{drop-step}
 use Rattle.spec.specs.Laws.Sweep.{swept, swept-turn, swept-end}
-use Rattle.symbols.specs.Parts.{part, length-part, getD-part, rest-part, whole-part, sub-part}
+use Rattle.text_symbols.specs.Parts.{part, length-part, getD-part, rest-part, whole-part, sub-part}
 use Rattle.text.specs.Writer.{Room, Appended, Apart, Regions, apart-part, appended-none, appended-more, appended-long, appended-part}
 
 -- it began with the buffer w₀ and with `count₀` symbols written. A turn writes at most 1,024 symbols for each that it takes, so the count stays small
@@ -20,16 +20,16 @@ pub record Sweeping (rule : Rule) (w₀ w : List ℕ) (from n to cap count₀ co
   pub out : List ℕ
   pub appended : Appended w₀ w to cap count₀ count out
   pub long : length w ≡ length w₀
-  pub so-far : out ++ swept rule (part from n w₀) i ≡ sweep rule 0 0 (part from n w₀)
-  pub slow : count ≤ count₀ + 1024 * i
+  pub same-as-whole : out ++ swept rule (part from n w₀) i ≡ sweep rule 0 0 (part from n w₀)
+  pub bounded : count ≤ count₀ + 1024 * i
 
 pub sweeping-none : (rule : Rule) {w : List ℕ} {from n to cap count : ℕ} → Regions w from n to cap count → Sweeping rule w w from n to cap count count 0
 unfolding swept
-sweeping-none rule {w} {to = to} {cap} {count} regions = record { regions = regions; out = []; appended = appended-none w to cap count; long = refl; so-far = refl; slow = omega arith }
+sweeping-none rule {w} {to = to} {cap} {count} regions = record { regions = regions; out = []; appended = appended-none w to cap count; long = refl; same-as-whole = refl; bounded = omega arith }
 
 -- the rest of the text, as the code looks at it
-abbrev pub rest : ℕ → ℕ → ℕ → List ℕ → List ℕ
-rest from n i w = part (from + i) (from + n - (from + i)) w
+abbrev pub restFrom : ℕ → ℕ → ℕ → List ℕ → List ℕ
+restFrom from n i w = part (from + i) (from + n - (from + i)) w
 
 module _ {rule : Rule} {w₀ w : List ℕ} {from n to cap count₀ count i : ℕ} (sweeping : Sweeping rule w₀ w from n to cap count₀ count i) where
   regions : Regions w₀ from n to cap count₀
@@ -39,14 +39,14 @@ module _ {rule : Rule} {w₀ w : List ℕ} {from n to cap count₀ count i : ℕ
   sweeping-all h =
       let l = length-part from n w₀ (regions .source) in
       let short : length (part from n w₀) ≤ i = omega arith in
-      let e = sym (append-nil (sweeping .out)) ∙ ap (λ s. sweeping .out ++ s) (sym (swept-end rule (part from n w₀) i short)) ∙ sweeping .so-far in
+      let e = sym (append-nil (sweeping .out)) ∙ ap (λ s. sweeping .out ++ s) (sym (swept-end rule (part from n w₀) i short)) ∙ sweeping .same-as-whole in
       subst (λ out. Appended w₀ w to cap count₀ count out) e (sweeping .appended)
 
   -- what is read of the text, in a turn: all of it, its rest, and m symbols of it
   pub source-read : part from (from + n - from) w ≡ part from n w₀
   source-read = whole-part from n w ∙ appended-part (sweeping .appended) from n (regions .apart)
 
-  pub rest-read : rest from n i w ≡ drop i (part from n w₀)
+  pub rest-read : restFrom from n i w ≡ drop i (part from n w₀)
   rest-read = rest-part from n i w ∙ ap (drop i) (appended-part (sweeping .appended) from n (regions .apart))
 
   pub symbols-read : (j m : ℕ) → j + m ≤ n → part (from + j) m w ≡ take m (drop j (part from n w₀))
@@ -58,7 +58,7 @@ module _ {rule : Rule} {w₀ w : List ℕ} {from n to cap count₀ count i : ℕ
   module _ (more : i < n) where
     pub turn-room : (m : ℕ) → m ≤ 32768 → Room w to cap count m
     turn-room m h =
-        let l = sweeping .long in let r = regions .region in let s = regions .small in let c = sweeping .slow in
+        let l = sweeping .long in let r = regions .region in let s = regions .small in let c = sweeping .bounded in
         record { region = omega arith; small = omega arith }
 
     -- what `copy_one` asks, to copy the symbol at place i
@@ -73,15 +73,15 @@ module _ {rule : Rule} {w₀ w : List ℕ} {from n to cap count₀ count i : ℕ
     sweeping-more t e a few =
         let s = part from n w₀ in
         let l = length-part from n w₀ (regions .source) in
-        let c = sweeping .slow in let d = a .counted in
+        let c = sweeping .bounded in let d = a .counted in
         let step = swept-turn rule s i (omega arith) e in
         record {
           regions = regions;
           out = sweeping .out ++ t .fresh;
           appended = appended-more (sweeping .appended) a;
           long = appended-long a ∙ sweeping .long;
-          so-far = append-assoc (sweeping .out) (t .fresh) (swept rule s (i + 1 + t .more)) ∙ ap (λ r. sweeping .out ++ r) (sym step) ∙ sweeping .so-far;
-          slow = omega arith;
+          same-as-whole = append-assoc (sweeping .out) (t .fresh) (swept rule s (i + 1 + t .more)) ∙ ap (λ r. sweeping .out ++ r) (sym step) ∙ sweeping .same-as-whole;
+          bounded = omega arith;
         }
 
     -- the symbol at place i has been copied

@@ -16,7 +16,7 @@ use lib.Dec.{ltb}
 use lib.ListN.{length, getD, set, take, drop, length-set, length-append, length-take, length-drop}
 use lib.Seq.{take-suc, getD-set-same, getD-set-other, ext-getD}
 use borrow.Author.Tests.{lt-ltb, le-ltb}
-use Rattle.symbols.specs.Parts.{part, getD-part}
+use Rattle.text_symbols.specs.Parts.{part, getD-part}
 
 unfoldable pub stored : List ℕ → ℕ → ℕ → ℕ → ℕ → List ℕ
 stored w to cap count b = cond (ltb count cap) (set w (to + count) b) w

@@ -12,13 +12,13 @@ use native.Mathlib.Decide.{decLt}
 use native.Mathlib.Omega.{arith}
 use lib.ListN.{length, getD, take, drop, length-append, List·getD-append, length-take, length-drop}
 use lib.Seq.{getD-append-add, getD-take, getD-drop, ext-getD}
-use Rattle.symbols.specs.Parts.{part, length-part, getD-part}
+use Rattle.text_symbols.specs.Parts.{part, length-part, getD-part}
 use Rattle.text.specs.Writer.{Appended, Outside, Apart, Regions, puts-outside, puts-other, puts-at, part-apart, appended-long}
 
 pub record Wrote (w₀ w : List ℕ) (to cap : ℕ) (out : List ℕ) : Type 0 where
   pub long : length w ≡ length w₀
-  pub held : (i : ℕ) → i < cap → i < length out → getD w (to + i) 0 ≡ getD out i 0
-  pub kept : (j : ℕ) → Outside to cap j → getD w j 0 ≡ getD w₀ j 0
+  pub written-there : (i : ℕ) → i < cap → i < length out → getD w (to + i) 0 ≡ getD out i 0
+  pub elsewhere-same : (j : ℕ) → Outside to cap j → getD w j 0 ≡ getD w₀ j 0
 
 -- what a stage ensures: its whole text has been written, and counted
 pub record Written (w₀ w : List ℕ) (to cap count : ℕ) (whole : List ℕ) : Type 0 where
@@ -28,16 +28,16 @@ pub record Written (w₀ w : List ℕ) (to cap count : ℕ) (whole : List ℕ) :
 -- in the middle of a stage: `finish` makes of what has been written what the stage comes to, a text or an answer
 pub record Writing {A : Type 0} (w₀ w : List ℕ) (to cap count : ℕ) (finish : List ℕ → A) (whole : A) : Type 0 where
   pub out : List ℕ
-  pub so-far : finish out ≡ whole
+  pub same-as-whole : finish out ≡ whole
   pub counted : count ≡ length out
   pub wrote : Wrote w₀ w to cap out
 
 pub wrote-apart : {w₀ w : List ℕ} {to cap : ℕ} {out : List ℕ} → Wrote w₀ w to cap out → (from n : ℕ) → Apart from n to cap → part from n w ≡ part from n w₀
-wrote-apart {w₀} {w} {to} {cap} t = part-apart w₀ w to cap (t .long) (t .kept)
+wrote-apart {w₀} {w} {to} {cap} t = part-apart w₀ w to cap (t .long) (t .elsewhere-same)
 
 -- ---- a text in its region
 pub wrote-none : (w : List ℕ) (to cap : ℕ) → Wrote w w to cap []
-wrote-none w to cap = record { long = refl; held = λ i h more. absurd (not-suc-le-zero more); kept = λ j o. refl }
+wrote-none w to cap = record { long = refl; written-there = λ i h more. absurd (not-suc-le-zero more); elsewhere-same = λ j o. refl }
 
 pub wrote-more :
     {w₀ w w′ : List ℕ} {to cap count count′ : ℕ} {out bs : List ℕ}
@@ -48,8 +48,8 @@ pub wrote-more :
 wrote-more {w₀} {w} {w′} {to} {cap} {count} {count′} {out} {bs} fits full t a =
     record {
       long = appended-long a ∙ t .long;
-      held = λ i below inside. at i below inside (decLt i (length out));
-      kept = λ j o. rw (a .work) (puts-outside bs w to cap count j o) ∙ t .kept j o;
+      written-there = λ i below inside. at i below inside (decLt i (length out));
+      elsewhere-same = λ j o. rw (a .work) (puts-outside bs w to cap count j o) ∙ t .elsewhere-same j o;
     }
   where
     past : (k : ℕ) → k < length bs → count + k < cap → getD w′ (to + (count + k)) 0 ≡ getD (out ++ bs) (count + k) 0
@@ -62,7 +62,7 @@ wrote-more {w₀} {w} {w′} {to} {cap} {count} {count′} {out} {bs} fits full 
     at : (i : ℕ) → i < cap → i < length (out ++ bs) → Dec (i < length out) → getD w′ (to + i) 0 ≡ getD (out ++ bs) i 0
     at i below inside (yes h) =
         rw (a .work) (puts-other bs w to cap count (to + i) (inl (omega arith)))
-        ∙ t .held i below h ∙ sym (List·getD-append out bs 0 i h)
+        ∙ t .written-there i below h ∙ sym (List·getD-append out bs 0 i h)
     at i below inside (no h) =
         let e : i ≡ count + (i - count) = omega arith in
         let n = length-append out bs in
@@ -73,20 +73,20 @@ pub wrote-less : {w₀ w : List ℕ} {to cap : ℕ} {out : List ℕ} (n : ℕ) �
 wrote-less {out = out} n t =
     record {
       long = t .long;
-      held = λ i below inside. (let l = length-take n out in t .held i below (omega arith) ∙ sym (getD-take n out i 0 (omega arith)));
-      kept = t .kept;
+      written-there = λ i below inside. (let l = length-take n out in t .written-there i below (omega arith) ∙ sym (getD-take n out i 0 (omega arith)));
+      elsewhere-same = t .elsewhere-same;
     }
 
 -- what lies behind the region is as it was
 pub wrote-beyond : {w₀ w : List ℕ} {to cap : ℕ} {out : List ℕ} {k : ℕ} → Wrote w₀ w to cap out → to + cap ≤ k → drop k w ≡ drop k w₀
 wrote-beyond {w₀} {w} {k = k} t h =
     let long = t .long in
-    ext-getD 0 (drop k w) (drop k w₀) (simp length-drop (omega arith)) (λ i _. getD-drop k w i 0 ∙ t .kept (k + i) (inr (omega arith)) ∙ sym (getD-drop k w₀ i 0))
+    ext-getD 0 (drop k w) (drop k w₀) (simp length-drop (omega arith)) (λ i _. getD-drop k w i 0 ∙ t .elsewhere-same (k + i) (inr (omega arith)) ∙ sym (getD-drop k w₀ i 0))
 
 -- a symbol of the source is read as it was
 pub wrote-read : {w₀ w : List ℕ} {from n to cap count : ℕ} {out : List ℕ} → Wrote w₀ w to cap out → Regions w₀ from n to cap count → (i : ℕ) → i < n → getD w (from + i) 0 ≡ getD (part from n w₀) i 0
 wrote-read {w₀} {from = from} {n} t stage i h =
-    t .kept (from + i) (⊎-elim (λ l. inl (omega arith)) (λ l. inr (omega arith)) (stage .apart)) ∙ sym (getD-part from n w₀ i h)
+    t .elsewhere-same (from + i) (⊎-elim (λ l. inl (omega arith)) (λ l. inr (omega arith)) (stage .apart)) ∙ sym (getD-part from n w₀ i h)
 
 -- a text that is no longer than the capacity stands in its region
 pub wrote-text : {w₀ w : List ℕ} {to cap : ℕ} {out : List ℕ} → Wrote w₀ w to cap out → to + cap ≤ length w₀ → length out ≤ cap → part to (length out) w ≡ out
@@ -94,7 +94,7 @@ wrote-text {w₀} {w} {to} {cap} {out} t fits short =
     let room = t .long in
     let l : length (part to (length out) w) ≡ length out = length-part to (length out) w (omega arith) in
     ext-getD 0 (part to (length out) w) out l
-    (λ i h. getD-part to (length out) w i (omega arith) ∙ t .held i (omega arith) (omega arith))
+    (λ i h. getD-part to (length out) w i (omega arith) ∙ t .written-there i (omega arith) (omega arith))
 
 -- the same of a text that was appended to none
 pub appended-text : {w w′ : List ℕ} {to cap count : ℕ} {out : List ℕ} → Appended w w′ to cap 0 count out → to + cap ≤ length w → count ≤ cap → part to count w′ ≡ out
@@ -109,7 +109,7 @@ appended-written {w} {to = to} {cap} {out = out} a fits = record { counted = a .
 
 -- ---- a stage that drops symbols from the end of what it has written: it begins, appends, drops from the end, and is done
 pub writing-none : {A : Type 0} (w : List ℕ) (to cap : ℕ) (finish : List ℕ → A) → Writing w w to cap 0 finish (finish [])
-writing-none w to cap finish = record { out = []; so-far = refl; counted = refl; wrote = wrote-none w to cap }
+writing-none w to cap finish = record { out = []; same-as-whole = refl; counted = refl; wrote = wrote-none w to cap }
 
 module _ {A : Type 0} {w₀ w : List ℕ} {to cap count : ℕ} {finish : List ℕ → A} {whole : A} (t : Writing w₀ w to cap count finish whole) where
   pub writing-more :
@@ -121,7 +121,7 @@ module _ {A : Type 0} {w₀ w : List ℕ} {to cap count : ℕ} {finish : List �
   writing-more {bs = bs} next fits a step =
       record {
         out = t .out ++ bs;
-        so-far = sym (step (t .out)) ∙ t .so-far;
+        same-as-whole = sym (step (t .out)) ∙ t .same-as-whole;
         counted = (let l = length-append (t .out) bs in let n = t .counted in let m = a .counted in omega arith);
         wrote = wrote-more fits (t .counted) (t .wrote) a;
       }
@@ -133,7 +133,7 @@ module _ {A : Type 0} {w₀ w : List ℕ} {to cap count : ℕ} {finish : List �
   writing-less n next step =
       record {
         out = take (length (t .out) - n) (t .out);
-        so-far = sym (step (t .out)) ∙ t .so-far;
+        same-as-whole = sym (step (t .out)) ∙ t .same-as-whole;
         counted = (let l = length-take (length (t .out) - n) (t .out) in let m = t .counted in omega arith);
         wrote = wrote-less (length (t .out) - n) (t .wrote);
       }
@@ -142,5 +142,5 @@ pub writing-all :
     {w₀ w : List ℕ} {to cap count : ℕ} {finish : List ℕ → List ℕ} {whole : List ℕ} → Writing w₀ w to cap count finish whole
     → ((out : List ℕ) → finish out ≡ out) → Written w₀ w to cap count whole
 writing-all {w₀} {w} {to} {cap} {whole = whole} t done =
-    let e : t .out ≡ whole = sym (done (t .out)) ∙ t .so-far in
+    let e : t .out ≡ whole = sym (done (t .out)) ∙ t .same-as-whole in
     record { counted = t .counted ∙ ap length e; wrote = subst (λ l. Wrote w₀ w to cap l) e (t .wrote) }

@@ -3,7 +3,7 @@
 // A stage reads a text in one region of the work buffer and writes its own to the other.
 mod writer;
 
-use search::Found;
+use text_search::Found;
 pub use writer::clear;
 pub use writer::copy;
 pub use writer::copy_one;
@@ -84,7 +84,7 @@ pub fn due_for(work: &[u8], text: Progress, pattern: &[u8]) -> Due
         return Due::Nothing;
     };
     let end = from + n;
-    let Found::At(i) = search::find(&work[from..end], pattern) else {
+    let Found::At(i) = text_search::find(&work[from..end], pattern) else {
         return Due::Nothing;
     };
     let to = CAP - from;

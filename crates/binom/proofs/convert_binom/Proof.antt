@@ -1,5 +1,5 @@
 -- `binom::convert_binom` meets its contract: a name that is nowhere leaves the text as it is, and else the rewritten text is judged. Assumes nothing.
-use Rattle.text.specs.Due.{staged-absent, occurs, staged-appended}
+use Rattle.text.specs.Due.{staged-absent, pattern-occurs, staged-appended}
 use Rattle.spec.specs.Calls.{convertBinom}
 use Rattle.spec.specs.Laws.Sweep.{sweep-absent}
 use Rattle.spec.specs.Laws.Absent.{binom-waits}
@@ -14,7 +14,7 @@ returns c = staged-absent (c .before .before .due-for .ensures) (c .enum-told .g
 rewrite-binoms-requires : tie.Need-rewrite-binoms-requires
 rewrite-binoms-requires c κs =
     let at-due-for : tie.After-due-for = search in
-    let o = occurs (at-due-for .due-for .ensures) (c .before .before .from .given .1) in
+    let o = pattern-occurs (at-due-for .due-for .ensures) (c .before .before .from .given .1) in
     (o .regions, o .short)
 
 returns-2 : tie.Need-returns-2

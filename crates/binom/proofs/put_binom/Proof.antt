@@ -1,7 +1,7 @@
 -- `binom::put_binom` meets its contract: three appends in a row are one. Assumes nothing.
 use native.Mathlib.Omega.{arith}
 use Rattle.text.specs.Writer.{appended-more, appended-part, appended-long}
-use Rattle.symbols.specs.Parts.{part, length-part}
+use Rattle.text_symbols.specs.Parts.{part, length-part}
 use Rattle.spec.specs.Symbols.{bytes}
 use mathlib.Core.List.{_++_}
 use lib.ListN.{length-append}

@@ -1,6 +1,6 @@
 -- `binom::rewrite_binoms` meets its contract. The loop's invariant is that of a sweep, at place i. Assumes nothing.
 use Rattle.binom.specs.Binom.{copied-uncalled, copied-unparted, comma-within, binom-written, inside-apart}
-use Rattle.delimiters.specs.Delimiters.{call-fits}
+use Rattle.call_rewriting.specs.Delimiters.{call-fits}
 use Rattle.text.specs.Sweep.{Sweeping, sweeping-none, sweeping-all, turn-room, one-room}
 use Rattle.spec.specs.Calls.{binom, convertBinom}
 use lib.ListN.{length-take, length-drop}

@@ -5,9 +5,9 @@ use native.Mathlib.Omega.{arith}
 use borrow.Author.Needs.{needs}
 use lib.ListN.{length-take, length-drop}
 use Rattle.spec.specs.Calls.{convertCases}
-use Rattle.symbols.specs.Parts.{length-part}
-use Rattle.text.specs.Due.{occurs, staged-absent, staged-kept, staged-appended}
-use Rattle.delimiters.specs.First.{due-unclosed, due-first}
+use Rattle.text_symbols.specs.Parts.{length-part}
+use Rattle.text.specs.Due.{pattern-occurs, staged-absent, staged-kept, staged-appended}
+use Rattle.call_rewriting.specs.First.{due-unclosed, due-first}
 use Rattle.cases.specs.Cases.{cases-unclosed, cases-parts}
 use Rattle.spec.specs.Laws.Absent.{cases-absent}
 use Rattle.cases.proofs.convert_cases.Statement.{statement}
@@ -17,35 +17,35 @@ returns : tie.Need-returns
 returns c = staged-absent (c .before .before .due-for .ensures) (c .enum-told .given .1) convertCases cases-absent
 
 add-at : tie.Need-add-at
-add-at c = let o = occurs (c .before .before .before .due-for .ensures) (c .before .from .given .1) in omega arith
+add-at c = let o = pattern-occurs (c .before .before .before .due-for .ensures) (c .before .from .given .1) in omega arith
 
 add-end : tie.Need-add-end
-add-end c = let o = occurs (c .before .before .before .due-for .ensures) (c .before .from .given .1) in omega arith
+add-end c = let o = pattern-occurs (c .before .before .before .due-for .ensures) (c .before .from .given .1) in omega arith
 
 sub-call-at : tie.Need-sub-call-at
-sub-call-at c = let o = occurs (c .before .before .before .due-for .ensures) (c .before .from .given .1) in omega arith
+sub-call-at c = let o = pattern-occurs (c .before .before .before .due-for .ensures) (c .before .from .given .1) in omega arith
 
 part-call-at-start : tie.Need-part-call-at-start
 part-call-at-start c =
     let at-due-for : tie.After-due-for = search in
-    let o = occurs (at-due-for .due-for .ensures) (c .before .before .from .given .1) in omega arith
+    let o = pattern-occurs (at-due-for .due-for .ensures) (c .before .before .from .given .1) in omega arith
 
 part-call-at-end : tie.Need-part-call-at-end
 part-call-at-end c =
     let at-due-for : tie.After-due-for = search in
-    let o = occurs (at-due-for .due-for .ensures) (c .before .before .from .given .1) in omega arith
+    let o = pattern-occurs (at-due-for .due-for .ensures) (c .before .before .from .given .1) in omega arith
 
 call-at-requires : tie.Need-call-at-requires
 call-at-requires c κs =
     let at-from : tie.After-from = search in
     let at-due-for : tie.After-due-for = search in
-    let o = occurs (at-due-for .due-for .ensures) (at-from .from .given .1) in simp (length-take, length-drop) (omega arith)
+    let o = pattern-occurs (at-due-for .due-for .ensures) (at-from .from .given .1) in simp (length-take, length-drop) (omega arith)
 
 returns-2 : tie.Need-returns-2
 returns-2 c =
     let at-from : tie.After-from = search in
     let at-due-for : tie.After-due-for = search in
-    let o = occurs (at-due-for .due-for .ensures) (at-from .from .given .1) in
+    let o = pattern-occurs (at-due-for .due-for .ensures) (at-from .from .given .1) in
     staged-kept (at-due-for .due-for .ensures) (at-from .from .given .1) convertCases (cases-unclosed _ _ (o .found) (due-unclosed o (c .before .before .call-at .ensures) (c .enum-told2 .given .1)))
 
 rewrite-cases-requires : tie.Need-rewrite-cases-requires
@@ -54,7 +54,7 @@ rewrite-cases-requires c κs =
     let at-from : tie.After-from = search in
     let at-due-for : tie.After-due-for = search in
     let at-start : tie.Start = search in
-    let o = occurs (at-due-for .due-for .ensures) (at-from .from .given .1) in
+    let o = pattern-occurs (at-due-for .due-for .ensures) (at-from .from .given .1) in
     let first = due-first o (at-call-at .call-at .ensures) (c .before .before .k .given .1) in
     let text = at-from .from .given .0 in
     let l = length-part (text .0) (text .1 .0) (at-start .args .work .now) (o .regions .source) in
@@ -67,7 +67,7 @@ returns-3 c =
     let at-from : tie.After-from = search in
     let at-due-for : tie.After-due-for = search in
     let at-start : tie.Start = search in
-    let o = occurs (at-due-for .due-for .ensures) (at-from .from .given .1) in
+    let o = pattern-occurs (at-due-for .due-for .ensures) (at-from .from .given .1) in
     let text = at-from .from .given .0 in
     let parts = cases-parts (at-start .args .work .now) (text .0) (text .1 .0) (due-first o (at-call-at .call-at .ensures) (at-k .k .given .1)) (o .regions .source) in
     staged-appended (at-due-for .due-for .ensures) (at-from .from .given .1) convertCases (rw (sym parts) at (c .before .before .before .rewrite-cases .ensures)) (c .finished .ensures)

@@ -1,7 +1,7 @@
 -- `cases::put_branches` meets its contract. The loop's invariant: the branches before `start` have been appended. Assumes nothing.
 use Rattle.cases.specs.Cases.{Branched, Branching, branching-none, branching-blank, branching-more, branching-all, branches-read, branch-read}
 use Rattle.text.specs.Writer.{apart-part, appended-long}
-use Rattle.symbols.specs.Parts.{part, length-part}
+use Rattle.text_symbols.specs.Parts.{part, length-part}
 use lib.ListN.{length, length-take, length-drop}
 use mathlib.Core.Path.{_≡_, refl, subst}
 use Prim.Native.Nat.{_+_, _-_, _≤_, _<_}
@@ -60,7 +60,7 @@ put-branch-requires c κs =
     let at-start : tie.Start Inv-loop μ-loop = search in
     let b = branch at-branch-at in
     let n = long at-branch-at in
-    let slow = at-loop .loop .inv .2 .slow in
+    let slow = at-loop .loop .inv .2 .bounded in
     let regions = at-start .pre .0 in
     let r = at-branch-at .branch-at .result in
     (record { region = omega arith; small = omega arith }, (omega arith, apart-part (at-start .args .from) (at-start .args .n) (at-start .args .to) 8192 (r .start) (r .end - r .start) (regions .apart) (omega arith)))
@@ -96,7 +96,7 @@ returns c =
     let l = c .before in
     let s = l .before .before in
     let n = length-part (s .args .from) (s .args .n) (s .args .work .now) (s .pre .0 .source) in
-    let slow = l .loop .inv .2 .slow in
+    let slow = l .loop .inv .2 .bounded in
     (branching-all (l .loop .inv .2) (omega arith), omega arith)
 
 pub put-branches-spec : {M : Type 1} → statement M

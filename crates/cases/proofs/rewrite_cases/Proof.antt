@@ -1,6 +1,6 @@
 -- `cases::rewrite_cases` meets its contract: three appends in a row are one. Assumes nothing.
 use Rattle.text.specs.Writer.{Apart, appended-more, appended-part, appended-long}
-use Rattle.symbols.specs.Parts.{length-part}
+use Rattle.text_symbols.specs.Parts.{length-part}
 use Prim.Native.Nat.{ℕ, _+_, _-_, _≤_}
 use mathlib.Core.Logic.{inl, inr, ⊎-elim}
 use native.Mathlib.Omega.{arith}

@@ -6,16 +6,16 @@ use native.Mathlib.Omega.{arith}
 use borrow.Author.Needs.{needs}
 use lib.ListN.{length}
 use Rattle.spec.specs.Table.{Definition, definitions}
-use Rattle.entries.specs.Sized.{remaining-ready, remaining-all}
+use Rattle.name_entry.specs.Sized.{remaining-ready, remaining-all}
 use Rattle.table.specs.Order.{remaining, steps-next, steps-done, steps-lies, steps-short}
 use Rattle.table.specs.Sound.{not-refused}
-use Rattle.definitions.specs.Applying.{Left, left-none, left-more, left-done, next-usable}
+use Rattle.definitions.specs.Applying.{DefinitionsLeft, left-none, left-more, left-done, next-usable}
 use Rattle.definitions.proofs.apply_definitions.Statement.{statement}
 use Rattle.definitions.proofs.apply_definitions.Tie as tie
 
 abbrev Inv-loop : tie.InvT-loop
 Inv-loop work₀ extra table done₀ cursor₀ work done cursor =
-    (length work ≡ length work₀) × ((ds : List Definition) → definitions table ≡ some ds → Left table cursor ds extra work₀ work done₀ done)
+    (length work ≡ length work₀) × ((ds : List Definition) → definitions table ≡ some ds → DefinitionsLeft table cursor ds extra work₀ work done₀ done)
 
 abbrev μ-loop : tie.MeasureT-loop
 μ-loop work₀ extra table done₀ cursor₀ work done cursor = length (remaining table cursor)

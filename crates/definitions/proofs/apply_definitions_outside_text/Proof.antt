@@ -3,11 +3,11 @@ use mathlib.Core.Path.{ap}
 use Rattle.spec.specs.Held.{holdTexts}
 use Rattle.spec.specs.Table.{definitions, byLength}
 use Rattle.spec.specs.Definitions.{applyDefinitions, applyDefinitionsOutsideText}
-use Rattle.symbols.specs.Parts.{part}
+use Rattle.text_symbols.specs.Parts.{part}
 use Rattle.text.specs.Stage.{shown}
 use Rattle.table.specs.Sound.{not-refused}
-use Rattle.blocks.specs.Outside.{holdable}
-use Rattle.blocks.specs.Carried.{back-refused, carries-staged, outside-answered}
+use Rattle.held_stages.specs.Outside.{holdable}
+use Rattle.held_stages.specs.Carried.{back-refused, carries-staged, outside-answered}
 use Rattle.definitions.specs.Applying.{order-sound, definitions-held, definitions-kept, outside-by-held}
 use borrow.Author.Needs.{needs}
 use Rattle.definitions.proofs.apply_definitions_outside_text.Statement.{statement}
@@ -30,7 +30,7 @@ put-all-back-requires c κs =
     let source = part (at-text .text .given .0 .0) (at-text .text .given .0 .1 .0) (at-start .args .work .now) in
     let extra = at-hold-texts .hold-texts .result .extra in
     let known = not-refused (definitions (at-start .args .table .now)) (at-start .pre .1 .1) in
-    let kept = definitions-kept extra (byLength (known .0)) (order-sound (at-start .args .table .now) (known .0) (known .1)) (holdTexts source) (from .extra) (from .made) in
+    let kept = definitions-kept extra (byLength (known .0)) (order-sound (at-start .args .table .now) (known .0) (known .1)) (holdTexts source) (from .extra) (from .well-made) in
     let staged = c .before .before .before .apply-definitions .ensures (known .0) (known .1) in
     record { held = holdTexts source; carries = carries-staged from staged kept }
 
@@ -44,9 +44,9 @@ returns-2 c =
     let source = part (at-text .text .given .0 .0) (at-text .text .given .0 .1 .0) (at-start .args .work .now) in
     let extra = at-hold-texts .hold-texts .result .extra in
     λ ds e.
-    let kept = definitions-kept extra (byLength ds) (order-sound (at-start .args .table .now) ds e) (holdTexts source) (from .extra) (from .made) in
+    let kept = definitions-kept extra (byLength ds) (order-sound (at-start .args .table .now) ds e) (holdTexts source) (from .extra) (from .well-made) in
     let staged = at-apply-definitions .apply-definitions .ensures ds e in
-    outside-answered from staged kept (applyDefinitions (byLength ds)) (definitions-held extra (byLength ds) (order-sound (at-start .args .table .now) ds e) (holdTexts source) (from .extra) (from .made))
+    outside-answered from staged kept (applyDefinitions (byLength ds)) (definitions-held extra (byLength ds) (order-sound (at-start .args .table .now) ds e) (holdTexts source) (from .extra) (from .well-made))
     (ap (λ q. shown q (at-start .args .work .now)) (at-text .text .given .1)) (c .before .before .put-all-back .ensures (holdTexts source) (carries-staged from staged kept)) (applyDefinitionsOutsideText (byLength ds)) (outside-by-held (byLength ds) source)
 
 pub apply-definitions-outside-text-spec : {M : Type 1} → statement M

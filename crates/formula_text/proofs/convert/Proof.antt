@@ -5,7 +5,7 @@ use native.Mathlib.Omega.{arith}
 use lib.ListN.{length-take}
 use Rattle.spec.specs.Program.{mostOutput}
 use Rattle.math_conv.specs.Answer.{meaning}
-use Rattle.math_conv.specs.Fits.{call-fits}
+use Rattle.math_conv.specs.Fits.{call-count-fits}
 use Rattle.formula_text.specs.Runs.{converts-done, converts-refused}
 use borrow.Author.Needs.{needs}
 use Rattle.formula_text.proofs.convert.Statement.{statement}
@@ -26,7 +26,7 @@ done c = c .before .before
 
 fits : (c : tie.After-n) → c .n .given .0 .0 ≤ mostOutput
 fits c =
-    let f = call-fits (call (done c) .typst-to-latex .ensures) (c .n .given .1) in
+    let f = call-count-fits (call (done c) .typst-to-latex .ensures) (c .n .given .1) in
     let l = start (done c) .pre .1 .0 in
     omega arith
 

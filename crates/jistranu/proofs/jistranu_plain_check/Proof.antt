@@ -1,7 +1,7 @@
 -- `jistranu::jistranu_plain_check` meets its contract, since the check does. Assumes nothing.
 use mathlib.Core.Path.{refl, sym, subst}
 use mathlib.Core.Bool.{false≢true}
-use Rattle.plain.specs.Check.{Checked}
+use Rattle.plain_check.specs.Check.{Checked}
 use borrow.Author.Needs.{needs}
 use Rattle.jistranu.proofs.jistranu_plain_check.Statement.{statement}
 use Rattle.jistranu.proofs.jistranu_plain_check.Tie as tie

@@ -4,7 +4,7 @@ use Rattle.lr.specs.Lr.{lr-absent, convert-lr-bare, convert-lr-sized}
 use Rattle.spec.specs.Finish.{lr, convertLr}
 use Rattle.spec.specs.Sweep.{sweep}
 use Rattle.text.specs.Stage.{staged-at}
-use Rattle.text.specs.Due.{staged-idle, occurs, staged-appended, staged-answer}
+use Rattle.text.specs.Due.{staged-idle, pattern-occurs, staged-appended, staged-answer}
 use mathlib.Core.Path.{sym}
 use borrow.Author.Needs.{needs}
 use Rattle.lr.proofs.convert_lr.Statement.{statement}
@@ -16,7 +16,7 @@ returns c = staged-idle (c .before .before .due-for .ensures) (c .enum-told .giv
 rewrite-lr-requires : tie.Need-rewrite-lr-requires
 rewrite-lr-requires c κs =
     let at-due-for : tie.After-due-for = search in
-    occurs (at-due-for .due-for .ensures) (c .before .before .from .given .1) .regions
+    pattern-occurs (at-due-for .due-for .ensures) (c .before .before .from .given .1) .regions
 
 returns-2 : tie.Need-returns-2
 returns-2 c =
@@ -34,7 +34,7 @@ returns-3 c =
     let awaited = at-due-for .due-for .ensures in
     let e = at-from .from .given .1 in
     let sized = rw (c .before .before .count .given .1) at (at-rewrite-lr .rewrite-lr .ensures) in
-    staged-at (awaited .ready) (occurs awaited e .text) convertLr (convert-lr-sized _ (sized .reaches)) (staged-appended awaited e (sweep lr 0 0) (sized .appended) (c .finished .ensures))
+    staged-at (awaited .ready) (pattern-occurs awaited e .text) convertLr (convert-lr-sized _ (sized .reaches)) (staged-appended awaited e (sweep lr 0 0) (sized .appended) (c .finished .ensures))
 
 pub convert-lr-spec : {M : Type 1} → statement M
 convert-lr-spec =

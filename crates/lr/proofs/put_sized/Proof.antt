@@ -1,6 +1,6 @@
 -- `lr::put_sized` meets its contract, by the first symbol. Assumes nothing.
 use Rattle.lr.specs.Lr.{sizedBy, sized-by-first, no-delimiter}
-use Rattle.symbols.specs.Parts.{part}
+use Rattle.text_symbols.specs.Parts.{part}
 use Rattle.text.specs.Writer.{Appended, apart-part}
 use mathlib.Core.Path.{refl, sym, subst}
 use mathlib.Core.Logic.{inl, inr, ⊎-elim}

@@ -1,10 +1,10 @@
 -- `lr::rewrite_lr` meets its contract. The loop's invariant is that of a sweep, at place i, and no bare delimiter has been reached. Assumes nothing.
-use Rattle.lr.specs.Lr.{no-call, bare-here, sized-here, sized-written, sized-few}
+use Rattle.lr.specs.Lr.{comes-past-no-call, bare-here, sized-here, sized-written, sized-few}
 use Rattle.lr.specs.Reached.{comes, comes-first, comes-end}
-use Rattle.delimiters.specs.Delimiters.{call-fits, called-here, copied-here}
+use Rattle.call_rewriting.specs.Delimiters.{call-fits, called-here, copied-here}
 use Rattle.spec.specs.Finish.{latexLr, lr, bareDelimiter}
 use Rattle.spec.specs.Sweep.{reached}
-use Rattle.symbols.specs.Parts.{part, length-part}
+use Rattle.text_symbols.specs.Parts.{part, length-part}
 use Rattle.text.specs.Sweep.{Sweeping, sweeping-none, sweeping-all, symbols-apart, turn-room, one-room}
 use lib.Dec.{eqb}
 use lib.ListN.{drop, length-take, length-drop}
@@ -47,7 +47,7 @@ loop-again c =
     let more = in-loop .loop-test .taken in
     let called = at-lr-at .lr-at .ensures in
     let none = at-enum-told .enum-told .given .1 in
-    (refl, copied-here latexLr sweeping more called none (c .before .before .copy-one .ensures), at-loop .loop .inv .2 ∙ no-call sweeping more called none)
+    (refl, copied-here latexLr sweeping more called none (c .before .before .copy-one .ensures), at-loop .loop .inv .2 ∙ comes-past-no-call sweeping more called none)
 
 -- the call that has been found ends within the text
 fits :

@@ -1,5 +1,5 @@
 -- `quotes::convert_text_quotes` meets its contract: a text without quotes is left as it is, and else the rewritten text is judged. Assumes nothing.
-use Rattle.text.specs.Due.{staged-absent, occurs, staged-rewritten}
+use Rattle.text.specs.Due.{staged-absent, pattern-occurs, staged-rewritten}
 use Rattle.spec.specs.Quotes.{convertTextQuotes}
 use Rattle.spec.specs.Laws.Absent.{quotes-absent}
 use borrow.Author.Needs.{needs}
@@ -12,7 +12,7 @@ returns c = staged-absent (c .before .before .due-for .ensures) (c .enum-told .g
 rewrite-quotes-requires : tie.Need-rewrite-quotes-requires
 rewrite-quotes-requires c κs =
     let at-due-for : tie.After-due-for = search in
-    let o = occurs (at-due-for .due-for .ensures) (c .before .before .from .given .1) in
+    let o = pattern-occurs (at-due-for .due-for .ensures) (c .before .before .from .given .1) in
     (o .regions, o .short)
 
 returns-2 : tie.Need-returns-2

@@ -1,8 +1,8 @@
 -- `quotes::rewrite_quotes` meets its contract. The loop's invariant: i symbols have been read, and `tail` is the end of what has been written. Assumes nothing.
-use Rattle.quotes.specs.Quotes.{Quoting, ClosedAt, grownBy, ending, quoting-none, quoting-plain, quoting-open, quoting-close, quoting-done, quoting-unclosed}
+use Rattle.quotes.specs.Quotes.{Quoting, ClosedAt, grownBy, endIn, quoting-none, quoting-plain, quoting-open, quoting-close, quoting-done, quoting-unclosed}
 use Rattle.text.specs.Written.{wrote-read, wrote-apart}
 use Rattle.text.specs.Writer.{appended-long}
-use Rattle.symbols.specs.Parts.{part, whole-part, length-part}
+use Rattle.text_symbols.specs.Parts.{part, whole-part, length-part}
 use borrow.Author.Tests.{eq-eqb, ne-eqb}
 use lib.ListN.{length, getD, length-take, length-drop}
 use mathlib.Core.Path.{_≡_, refl, sym, ap, _∙_, subst}
@@ -35,7 +35,7 @@ put-requires : tie.Need-put-requires Inv-loop μ-loop
 put-requires c κs =
     let at-loop : tie.At-loop Inv-loop μ-loop = search in
     let at-start : tie.Start Inv-loop μ-loop = search in
-    let slow = at-loop .loop .inv .3 .slow in
+    let slow = at-loop .loop .inv .3 .bounded in
     let r = at-start .pre .0 in
     record { region = omega arith; small = omega arith }
 
@@ -45,7 +45,7 @@ step-requires c κs =
     let q = at-loop .loop .inv .3 in
     let few = q .ends .few in
     let n = q .counted in
-    let slow = q .slow in
+    let slow = q .bounded in
     omega arith
 
 loop-again : tie.Need-loop-again Inv-loop μ-loop
@@ -82,7 +82,7 @@ put-closing-requires : tie.Need-put-closing-requires Inv-loop μ-loop
 put-closing-requires c κs =
     let at-loop : tie.At-loop Inv-loop μ-loop = search in
     let at-start : tie.Start Inv-loop μ-loop = search in
-    let slow = at-loop .loop .inv .3 .slow in
+    let slow = at-loop .loop .inv .3 .bounded in
     let r = at-start .pre .0 in
     record { region = omega arith; small = omega arith }
 
@@ -106,7 +106,7 @@ loop-again-2 c =
     let w = f .within in
     let put = at-put-closing .put-closing .ensures in
     let quoted = then2 .if2 .taken in
-    let tail = c .new2 .ensures ∙ ap ending (c .before .closing-last .ensures) in
+    let tail = c .new2 .ensures ∙ ap endIn (c .before .closing-last .ensures) in
     let q = rw quoted at (at-loop .loop .inv .3) in (
       omega arith,
       omega (arith, appended-long put),
@@ -119,7 +119,7 @@ put-opening-requires c κs =
     let at-loop : tie.At-loop Inv-loop μ-loop = search in
     let at-start : tie.Start Inv-loop μ-loop = search in
     let q = at-loop .loop .inv .3 in
-    let slow = q .slow in
+    let slow = q .bounded in
     let few = q .ends .few in
     let n = q .counted in
     let r = at-start .pre .0 in
@@ -147,7 +147,7 @@ put-requires-2 : tie.Need-put-requires-2 Inv-loop μ-loop
 put-requires-2 c κs =
     let at-start : tie.Start Inv-loop μ-loop = search in
     let l = c .before .before .before in
-    let slow = l .loop .inv .3 .slow in
+    let slow = l .loop .inv .3 .bounded in
     let r = at-start .pre .0 in
     record { region = omega arith; small = omega arith }
 

@@ -6,7 +6,7 @@ use Rattle.scripts.proofs.convert_paren_to_brace.Tie as tie
 
 returns : tie.Need-returns
 unfolding convertParenToBrace
-returns c = c .before .before .convert .ensures
+returns c = c .before .before .convert-pattern .ensures
 
 pub convert-paren-to-brace-spec : {M : Type 1} → statement M
 convert-paren-to-brace-spec =

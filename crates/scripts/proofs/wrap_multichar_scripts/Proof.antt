@@ -9,7 +9,7 @@ use Rattle.scripts.proofs.wrap_multichar_scripts.Tie as tie
 returns : tie.Need-returns
 returns c =
     let at-start : tie.Start = search in
-    staged-by (wrapMulticharScripts (at-start .args .sign)) (wrap-multichar-same (at-start .args .sign)) (c .before .before .convert .ensures)
+    staged-by (wrapMulticharScripts (at-start .args .sign)) (wrap-multichar-same (at-start .args .sign)) (c .before .before .convert-pattern .ensures)
 
 pub wrap-multichar-scripts-spec : {M : Type 1} → statement M
 wrap-multichar-scripts-spec =

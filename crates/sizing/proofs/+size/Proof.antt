@@ -4,7 +4,7 @@ use Rattle.sizing.specs.Pieces.{sizedAt}
 use Rattle.sizing.specs.Turns.{sized-first, sized-end, kept-piece, kept-fits, kept-more, grown-fits, inner-apart, grown-more}
 use Rattle.spec.specs.Finish.{sizeDelimitersToContent}
 use Rattle.text.specs.Filling.{Filling, filling-none, filling-all}
-use Rattle.symbols.specs.Parts.{part, length-part}
+use Rattle.text_symbols.specs.Parts.{part, length-part}
 use Rattle.text.specs.Writer.{apart-part, appended-long}
 use lib.ListN.{length, drop, length-take, length-drop}
 use mathlib.Core.Path.{_≡_, refl, sym, subst}
@@ -79,7 +79,7 @@ keeps : (t : ℕ) (c : size-lts.After-known-told (callees t) (size-at t) size.Po
     → (let at-loop : size-lts.At-loop (callees t) (size-at t) size.Post Inv-loop μ-loop = search in let k = c .before .k .given .0 .0 in (0 < k) × (at-loop .loop .i + k ≤ at-loop .before .before .args .n))
 keeps t c =
     let at-loop : size-lts.At-loop (callees t) (size-at t) size.Post Inv-loop μ-loop = search in (
-      kept-piece (at-loop .loop .i) (at-loop .before .before .pre .1) (at-loop .loop .inv .4) _ (c .before .before .before .piece-at .ensures) (c .before .k .given .1) .some,
+      kept-piece (at-loop .loop .i) (at-loop .before .before .pre .1) (at-loop .loop .inv .4) _ (c .before .before .before .piece-at .ensures) (c .before .k .given .1) .positive,
       kept-fits (at-loop .loop .i) (at-loop .before .before .pre .1) (at-loop .loop .inv .4) _ (c .before .before .before .piece-at .ensures) (c .before .k .given .1),
     )
 

@@ -1,8 +1,8 @@
 -- `sizing::size_delimiters_to_content` meets its contract: with no opening delimiter the text stays, and else the rewritten text is judged. Assumes nothing.
-use Rattle.sizing.specs.Levels.{plain-of, size-plain}
+use Rattle.sizing.specs.Levels.{openerless-of, size-openerless}
 use Rattle.spec.specs.Symbols.{bytes, contains}
 use Rattle.spec.specs.Finish.{sizeDelimitersToContent}
-use Rattle.symbols.specs.Parts.{part, whole-part}
+use Rattle.text_symbols.specs.Parts.{part, whole-part}
 use Rattle.text.specs.Stage.{placed-fits, placed-low, placed-regions, staged-same, staged-written}
 use Rattle.text.specs.Written.{appended-written}
 use borrow.Author.Tests.{not-true}
@@ -33,7 +33,7 @@ returns-2 c =
     ap (λ u. contains (bytes "(") u || contains (bytes "[") u) (sym (whole-part (t .0 .0) (t .0 .1 .0) (at-start .args .work .now)))
     ∙ sym (c .before .has-delimiter .ensures) ∙ not-true _ (c .if1 .taken)
     in
-    staged-same (at-start .pre) (t .1) sizeDelimitersToContent (size-plain text (plain-of text none))
+    staged-same (at-start .pre) (t .1) sizeDelimitersToContent (size-openerless text (openerless-of text none))
 
 sub-to : tie.Need-sub-to
 sub-to c =

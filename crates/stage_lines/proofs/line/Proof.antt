@@ -1,5 +1,5 @@
 -- `stage_lines::line` meets its contract. Assumes nothing.
-use Rattle.search.specs.Search.{finds-within}
+use Rattle.text_search.specs.Search.{finds-within}
 use borrow.Author.Needs.{needs}
 use native.Mathlib.Omega.{arith}
 use Rattle.stage_lines.proofs.line.Statement.{statement}

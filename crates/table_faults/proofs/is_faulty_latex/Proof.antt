@@ -1,6 +1,6 @@
 -- `table_faults::is_faulty_latex` meets its contract: some byte is wrong where not all are right. Assumes nothing.
 use Rattle.spec.specs.Symbols.{is, foreign}
-use Rattle.symbols.specs.Runs.{any-not-all}
+use Rattle.text_symbols.specs.Runs.{any-not-all}
 use mathlib.Core.Bool.{not, _||_}
 use mathlib.Core.Path.{sym, ap, _∙_}
 use borrow.Author.Needs.{needs}

@@ -1,9 +1,9 @@
 -- `fractions::regular::convert_regular_fractions` meets its contract. The loop's invariant: i symbols have been read, and the rest of them finish what has been written. Assumes nothing.
 use Rattle.fractions.specs.Slash.{slashed-ordered}
-use Rattle.fractions.specs.Turn.{round-plain, round-stays, round-barred, round-fraction, Converting, converting-none, converting-all, converting-refused, converting-kept, converting-fraction, slice-same, symbol-read, slashed-here, fraction-here}
+use Rattle.fractions.specs.Turn.{round-copied, round-stays, round-barred, round-fraction, Converting, converting-none, converting-all, converting-refused, converting-kept, converting-fraction, slice-same, symbol-read, slashed-here, fraction-here}
 use Rattle.fractions.specs.Writing.{fraction-small}
 use Rattle.spec.specs.Fractions.{slash}
-use Rattle.symbols.specs.Parts.{part, length-part}
+use Rattle.text_symbols.specs.Parts.{part, length-part}
 use Rattle.text.specs.Writer.{appended-long}
 use Prim.Native.Nat.{_-_, _*_, _≤_}
 use borrow.Author.Needs.{needs}
@@ -42,7 +42,7 @@ loop-again c =
     let long = appended-long put in
     let n = put .counted in
     let other = then1 .if1 .taken in
-    (omega arith, omega arith, omega arith, inv .3, converting-kept (inv .4) (regions .region) (rw read at put) (round-plain s i (omega arith) (λ e. other (read ∙ e))))
+    (omega arith, omega arith, omega arith, inv .3, converting-kept (inv .4) (regions .region) (rw read at put) (round-copied s i (omega arith) (λ e. other (read ∙ e))))
 
 slash-at-requires : tie.Need-slash-at-requires Inv-loop μ-loop
 slash-at-requires c κs =

@@ -3,8 +3,8 @@ use Rattle.fractions.specs.Settle.{staged-slashless, ready-text, staged-
 use Rattle.spec.specs.Fractions.{convertFractions}
 use Rattle.spec.specs.Symbols.{bytes, find}
 use Rattle.spec.specs.Table.{whole}
-use Rattle.symbols.specs.Parts.{whole-part}
-use Rattle.search.specs.Search.{finds-nothing}
+use Rattle.text_symbols.specs.Parts.{whole-part}
+use Rattle.text_search.specs.Search.{finds-nothing}
 use Rattle.text.specs.Stage.{staged-refused, placed-fits}
 use borrow.Author.Needs.{needs}
 use mathlib.Core.Path.{refl, sym, ap, _∙_}

@@ -1,6 +1,6 @@
 -- `fractions::slashes::slash_at` meets its contract, by what the searches answer. Assumes nothing.
 use Rattle.fractions.specs.Slash.{slash-inside, slash-bare, slash-barred, slash-alone, slash-converts}
-use Rattle.operands.specs.Places.{ahead-found, ahead-is, ahead-nothing, behind-found, behind-is, behind-nothing}
+use Rattle.fraction_operands.specs.Places.{ahead-found, ahead-is, ahead-nothing, behind-found, behind-is, behind-nothing}
 use borrow.Author.Needs.{needs}
 use mathlib.Core.Path.{sym, _∙_}
 use native.Mathlib.Omega.{arith}

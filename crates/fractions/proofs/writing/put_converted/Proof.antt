@@ -1,7 +1,7 @@
 -- `fractions::writing::put_converted` meets its contract: the operands stand in the buffer from the text's start on. Assumes nothing.
 use Rattle.fractions.specs.Slash.{fraction}
 use Rattle.fractions.specs.Writing.{num-source, den-source, fraction-shifted}
-use Rattle.symbols.specs.Parts.{part}
+use Rattle.text_symbols.specs.Parts.{part}
 use Rattle.text.specs.Writer.{Appended, appended-long}
 use borrow.Author.Needs.{needs}
 use mathlib.Core.Path.{subst}

@@ -1,7 +1,7 @@
 -- `layout::alignment::convert_alignment` meets its contract, by what the text has. Assumes nothing.
 use Rattle.layout.specs.Aligned.{linedTo, align-some, align-breaks, align-none, lined-whole}
 use Rattle.spec.specs.Finish.{hasAlignment, hasLineBreaks, convertAlignment}
-use Rattle.symbols.specs.Parts.{part, length-part, whole-part}
+use Rattle.text_symbols.specs.Parts.{part, length-part, whole-part}
 use Rattle.text.specs.Stage.{placed-fits, placed-low, placed-regions, staged-same, staged-written}
 use Rattle.text.specs.Written.{appended-written}
 use mathlib.Core.Path.{sym, ap, _∙_}

@@ -8,7 +8,7 @@ use Rattle.layout.proofs.alignment.is_break.Tie as tie
 returns : tie.Need-returns
 returns c =
     let at-start : tie.Start = search in
-    break-is (at-start .args .s .now) (at-start .args .i) (c .before .before2 .result) (c .symbol .result) (at-start .pre) (c .before .before2 .ensures) (c .symbol .ensures)
+    break-is (at-start .args .s .now) (at-start .args .i) (c .before .symbol-before .result) (c .symbol .result) (at-start .pre) (c .before .symbol-before .ensures) (c .symbol .ensures)
 
 pub is-break-spec : {M : Type 1} → statement M
 is-break-spec =

@@ -2,7 +2,7 @@
 -- Assumes nothing.
 use Rattle.layout.specs.Aligned.{linedTo, lined-end, lines-more, lines-few}
 use Rattle.text.specs.Filling.{Filling, filling-none, filling-all}
-use Rattle.symbols.specs.Parts.{part}
+use Rattle.text_symbols.specs.Parts.{part}
 use Rattle.text.specs.Writer.{appended-long}
 use lib.ListN.{length, length-take, length-drop}
 use mathlib.Core.Path.{_≡_, refl}

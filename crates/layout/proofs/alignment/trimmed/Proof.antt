@@ -1,8 +1,8 @@
 -- `layout::alignment::trimmed` meets its contract, by where the blanks end and begin. Assumes nothing.
 use Rattle.layout.specs.Lines.{trimmed-by}
 use Rattle.spec.specs.Symbols.{blank, dropWhile}
-use Rattle.symbols.specs.Parts.{rest-of}
-use Rattle.symbols.specs.Places.{before, Behind}
+use Rattle.text_symbols.specs.Parts.{rest-of}
+use Rattle.text_symbols.specs.Places.{before, BackTo}
 use lib.ListN.{length}
 use mathlib.Core.Path.{subst}
 use Prim.Native.Nat.{_-_}
@@ -16,7 +16,7 @@ returns c =
     let first : tie.After-run-end = search in
     let s = at-start .args .s .now in let start = first .run-end .result in
     let n = length s - start in
-    trimmed-by (first .run-end .ensures) (subst (λ l. Behind l n (c .run-start .result) (dropWhile blank (before l n))) (rest-of start s) (c .run-start .ensures))
+    trimmed-by (first .run-end .ensures) (subst (λ l. BackTo l n (c .run-start .result) (dropWhile blank (before l n))) (rest-of start s) (c .run-start .ensures))
 
 pub trimmed-spec : {M : Type 1} → statement M
 trimmed-spec =

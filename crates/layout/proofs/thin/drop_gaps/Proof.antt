@@ -3,7 +3,7 @@
 use Rattle.layout.specs.Thin.{thinned, thinned-first, thinned-end, gap-fits, gap-more, gap-few, symbol-more}
 use Rattle.spec.specs.Finish.{dropThinSpaceAfterCommands}
 use Rattle.text.specs.Filling.{Filling, filling-none, filling-all}
-use Rattle.symbols.specs.Parts.{part, length-part}
+use Rattle.text_symbols.specs.Parts.{part, length-part}
 use Rattle.text.specs.Writer.{appended-long}
 use lib.ListN.{length}
 use mathlib.Core.Path.{_≡_, refl, sym, subst}

@@ -2,7 +2,7 @@
 -- Assumes nothing.
 use Rattle.spec.specs.Laws.Absent.{thin-spaces-absent}
 use Rattle.spec.specs.Finish.{dropThinSpaceAfterCommands}
-use Rattle.text.specs.Due.{staged-absent, occurs, staged-appended}
+use Rattle.text.specs.Due.{staged-absent, pattern-occurs, staged-appended}
 use borrow.Author.Needs.{needs}
 use Rattle.layout.proofs.thin.drop_thin_space_after_commands.Statement.{statement}
 use Rattle.layout.proofs.thin.drop_thin_space_after_commands.Tie as tie
@@ -13,7 +13,7 @@ returns c = staged-absent (c .before .before .due-for .ensures) (c .enum-told .g
 drop-gaps-requires : tie.Need-drop-gaps-requires
 drop-gaps-requires c κs =
     let at-due-for : tie.After-due-for = search in
-    occurs (at-due-for .due-for .ensures) (c .before .before .from .given .1) .regions
+    pattern-occurs (at-due-for .due-for .ensures) (c .before .before .from .given .1) .regions
 
 returns-2 : tie.Need-returns-2
 returns-2 c =

@@ -1,7 +1,7 @@
 -- `layout::thin::is_spacing` meets its contract, by the letters and what stands behind them. Assumes nothing.
-use Rattle.layout.specs.Thin.{argument, spacing-is}
+use Rattle.layout.specs.Thin.{isArgument, spacing-is}
 use Rattle.spec.specs.Finish.{atomCommands, oneOf}
-use Rattle.symbols.specs.Parts.{rest-of}
+use Rattle.text_symbols.specs.Parts.{rest-of}
 use lib.Dec.{ltb}
 use lib.ListN.{take}
 use mathlib.Core.Bool.{not, _&&_}
@@ -18,7 +18,7 @@ returns c =
     let letters : tie.After-run-end = search in
     let s = at-start .args .s .now in
     let end = letters .run-end .result in
-    ap₂ (λ a b. ltb 0 end && (a && not b)) (c .before .before .is-argument .ensures ∙ ap argument (rest-of end s)) (c .is-atom-command .ensures ∙ ap (λ k. oneOf atomCommands (take k s)) (sub-zero end))
+    ap₂ (λ a b. ltb 0 end && (a && not b)) (c .before .before .is-argument .ensures ∙ ap isArgument (rest-of end s)) (c .is-atom-command .ensures ∙ ap (λ k. oneOf atomCommands (take k s)) (sub-zero end))
     ∙ spacing-is (letters .run-end .ensures)
 
 pub is-spacing-spec : {M : Type 1} → statement M

@@ -1,7 +1,7 @@
 -- `layout::thin::keeps_gap` meets its contract, by the last backslash. Assumes nothing.
 use Rattle.layout.specs.Thin.{gap-found, gap-none, gapIf}
 use Rattle.spec.specs.Finish.{spacing}
-use Rattle.symbols.specs.Parts.{rest-of}
+use Rattle.text_symbols.specs.Parts.{rest-of}
 use mathlib.Core.Bool.{not}
 use mathlib.Core.Path.{sym, ap, _∙_}
 use native.Mathlib.Omega.{arith}

@@ -1,6 +1,6 @@
 -- `math_conv::admission::has_foreign` meets its contract: some byte is foreign where not all are a formula's. Assumes nothing.
 use Rattle.spec.specs.Symbols.{foreign}
-use Rattle.symbols.specs.Runs.{any-not-all}
+use Rattle.text_symbols.specs.Runs.{any-not-all}
 use mathlib.Core.Bool.{not}
 use mathlib.Core.Path.{sym, ap, _∙_}
 use borrow.Author.Needs.{needs}

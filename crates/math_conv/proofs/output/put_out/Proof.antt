@@ -2,7 +2,7 @@
 -- Assumes nothing.
 use native.Mathlib.Omega.{arith}
 use borrow.Author.Needs.{needs}
-use Rattle.symbols.specs.Parts.{whole-part}
+use Rattle.text_symbols.specs.Parts.{whole-part}
 use Rattle.text.specs.Stage.{placed-fits}
 use Rattle.math_conv.specs.Steps.{puts-refused, puts-short, puts-text}
 use Rattle.math_conv.proofs.output.put_out.Statement.{statement}

@@ -5,7 +5,7 @@ use Prim.Native.Nat.{ℕ}
 use native.Mathlib.Omega.{arith}
 use lib.ListN.{drop, take-append-drop, length-take}
 use borrow.Author.Tests.{not-false}
-use Rattle.symbols.specs.Parts.{rest-of}
+use Rattle.text_symbols.specs.Parts.{rest-of}
 use borrow.Author.Needs.{needs}
 use Rattle.replay.proofs.calls.compare_done.Statement.{statement}
 use Rattle.replay.proofs.calls.compare_done.Tie as tie

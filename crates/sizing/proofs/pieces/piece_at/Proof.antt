@@ -1,6 +1,6 @@
 -- `sizing::pieces::piece_at` meets its contract, by what the searches find. Assumes nothing.
 use Rattle.sizing.specs.Pieces.{script-piece, symbol-piece, tall-piece}
-use Rattle.search.specs.Search.{closes-within}
+use Rattle.text_search.specs.Search.{closes-within}
 use lib.ListN.{length-drop}
 use Prim.Native.Nat.{_+_}
 use native.Mathlib.Omega.{arith}

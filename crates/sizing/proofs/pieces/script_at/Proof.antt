@@ -1,7 +1,7 @@
 -- `sizing::pieces::script_at` meets its contract, by its test. Assumes nothing.
 use Rattle.sizing.specs.Pieces.{script-yes, script-no}
 use Rattle.spec.specs.Closing.{matchingDelimiter}
-use Rattle.search.specs.Search.{Closes, closes-rest}
+use Rattle.text_search.specs.Search.{Closes, closes-rest}
 use lib.ListN.{drop, length-take, length-drop}
 use mathlib.Core.Path.{subst}
 use Prim.Native.Nat.{_+_}

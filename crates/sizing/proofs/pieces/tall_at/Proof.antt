@@ -1,6 +1,6 @@
 -- `sizing::pieces::tall_at` meets its contract, by the delimiter. Assumes nothing.
 use Rattle.sizing.specs.Pieces.{TallIn, tall-sized, tall-here, tall-other}
-use Rattle.symbols.specs.Parts.{rest-of}
+use Rattle.text_symbols.specs.Parts.{rest-of}
 use lib.ListN.{length-take, length-drop}
 use mathlib.Core.Path.{refl, sym, _∙_, subst}
 use Prim.Native.Nat.{_+_}

@@ -1,7 +1,7 @@
 -- `sizing::pieces::tall_inside` meets its contract, by what the closing search finds. Assumes nothing.
 use Rattle.sizing.specs.Pieces.{tall-none, tall-low, tall-high}
 use Rattle.spec.specs.Finish.{tall}
-use Rattle.search.specs.Search.{closes-within}
+use Rattle.text_search.specs.Search.{closes-within}
 use lib.ListN.{take}
 use mathlib.Core.Path.{sym, ap, _∙_}
 use native.Mathlib.Nat.{sub-zero}

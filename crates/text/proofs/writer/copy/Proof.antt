@@ -4,7 +4,7 @@ use mathlib.Core.Path.{_≡_, refl, ap, _∙_, sym}
 use native.Mathlib.Omega.{arith}
 use lib.ListN.{length, take, getD}
 use lib.Seq.{take-all}
-use Rattle.symbols.specs.Parts.{part, length-part, getD-part}
+use Rattle.text_symbols.specs.Parts.{part, length-part, getD-part}
 use Rattle.text.specs.Writer.{Appended, appended-none, next-room, next-appended, appended-part, appended-long}
 use Rattle.text.proofs.writer.copy.Statement.{statement}
 use Rattle.text.proofs.writer.copy.Tie as tie

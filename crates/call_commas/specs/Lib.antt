@@ -1,0 +1,3 @@
+-- What the contracts of `call_commas` cite.
+pub mod Commas
+pub mod Split

@@ -1,0 +1,3 @@
+-- What the contracts of `call_rewriting` cite.
+pub mod Delimiters
+pub mod First

@@ -1,4 +1,0 @@
--- What the contracts of `closing` cite.
-pub mod Closing
-pub mod Backward
-pub mod Level

@@ -1,3 +1,0 @@
--- What the contracts of `commas` cite.
-pub mod Commas
-pub mod Split

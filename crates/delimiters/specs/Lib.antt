@@ -1,3 +1,0 @@
--- What the contracts of `delimiters` cite.
-pub mod Delimiters
-pub mod First

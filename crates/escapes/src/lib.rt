@@ -1,0 +1,34 @@
+// Escapes: the solidus mark, set braces and the percent sign. Each is a stage; the solidus has two: a conversion begins with the one that
+// sets the mark, and the other writes a solidus for it.
+mod braces;
+
+pub use braces::escape_set_braces;
+use text::Progress;
+ghost use Rattle.spec.specs.Result.{stage};
+ghost use Rattle.spec.specs.Pipeline.{markSolidus, unmarkSolidus};
+ghost use Rattle.spec.specs.Finish.{escapePercent};
+ghost use Rattle.text.specs.Stage.{Ready, Staged};
+
+// `\/` becomes the mark, which no fraction sees.
+pub fn mark_solidus(work: &mut [u8], text: Progress) -> Progress
+    requires { ⌜ Ready (now work) text ⌝ }
+    ensures { λ r. ⌜ Staged (now (work .entry)) (now (work .exit)) text r (stage markSolidus) ⌝ }
+{
+    pattern_rewriting::replace(work, text, b"\\/", b"\x01")
+}
+
+// The mark becomes a slash.
+pub fn unmark_solidus(work: &mut [u8], text: Progress) -> Progress
+    requires { ⌜ Ready (now work) text ⌝ }
+    ensures { λ r. ⌜ Staged (now (work .entry)) (now (work .exit)) text r (stage unmarkSolidus) ⌝ }
+{
+    pattern_rewriting::replace(work, text, b"\x01", b"/")
+}
+
+// `%` begins a comment in LaTeX, so it becomes `\%`.
+pub fn escape_percent(work: &mut [u8], text: Progress) -> Progress
+    requires { ⌜ Ready (now work) text ⌝ }
+    ensures { λ r. ⌜ Staged (now (work .entry)) (now (work .exit)) text r (stage escapePercent) ⌝ }
+{
+    pattern_rewriting::replace(work, text, b"%", b"\\%")
+}

@@ -1,0 +1,195 @@
+-- What the buffer holds after `hold_out`, as callers need it. Assumes nothing.
+--     Holds            a text with marks lies at `at`, and its blocks where they belong
+--     holds-texts, holds-both    after one `hold_out`, and after two
+--     holds-rewritten  after a stage that rewrites the text between the marks
+--     holds-lost       what `lost` tests
+--     back-romans, back-texts    `put_back` may be called, and what it gives
+use mathlib.Core.Path.{_≡_, refl, sym, ap, ap₂, _∙_, subst}
+use mathlib.Core.Bool.{false, _||_}
+use mathlib.Core.Logic.{inl}
+use mathlib.Core.List.{List, [], _++_, append-nil}
+use Prim.Native.Nat.{ℕ, _+_, _*_, _≤_}
+use native.Mathlib.Omega.{arith}
+use lib.ListN.{length, drop, length-append}
+use Rattle.spec.specs.Symbols.{bytes, textMark, romanMark}
+use Rattle.spec.specs.Held.{Held, withText, holdTexts, holdBoth, filled, inFull}
+use Rattle.text_symbols.specs.Parts.{part}
+use Rattle.text.specs.Writer.{Appended, Apart, appended-long, appended-part}
+use Rattle.text.specs.Written.{appended-text, appended-written, wrote-beyond}
+use Rattle.held_blocks.specs.declared.Marked.{Marked}
+use Rattle.held_laws.specs.Marks.{hasMark, count, order, concat, has-mark-append}
+use Rattle.held_laws.specs.Noted.{noted}
+use Rattle.held_laws.specs.WellMade.{WellMade, lost, concat-append, concat-mark-free}
+use Rattle.held_laws.specs.InFull.{text-marks-left}
+use Rattle.held_laws.specs.Limits.{texts-few, texts-short, both-few, both-short}
+use Rattle.held_blocks.specs.Filing.{blocksAt, HeldOut}
+use Rattle.held_blocks.specs.HoldOut.{Hold, takenFrom}
+use Rattle.held_blocks.specs.Back.{Back, storedFrom}
+use Rattle.held_blocks.specs.Keeping.{KeepsBlocks, keeps-none, keeps-filed, keeps-stored, used-more, filed-more, keeps-more, keeps-beyond}
+
+pub record Holds (w : List ℕ) (at : ℕ) (m : Marked) (h : Held) : Type 0 where
+  pub text : part at (m .len) w ≡ h .text
+  pub short : m .len ≤ 8192
+  pub keeps : KeepsBlocks w (h .texts ++ h .romans)
+  pub used : m .used ≡ length (concat (h .texts ++ h .romans))
+  pub filed : m .filed ≡ 4 * length (h .texts ++ h .romans)
+
+-- ---- holding out
+-- the text that was written stands in its region
+held-text-read :
+    {w w′ : List ℕ} {to used filed len used′ filed′ : ℕ} {out : List ℕ} {bs : List (List ℕ)} → 32768 ≤ length w → to + 8192 ≤ blocksAt
+    → HeldOut w w′ to used filed len used′ filed′ out bs → len ≤ 8192 → part to len w′ ≡ out
+held-text-read {to = to} {len = len} long region h short =
+    appended-part (h .filing) to len (inl (omega arith))
+    ∙ appended-part (h .block) to len (inl (omega arith))
+    ∙ appended-text (h .text) (omega arith) short
+
+module _ {w : List ℕ} {from n to : ℕ} (hold : Hold w from n to 0 0) (free : hasMark (part from n w) ≡ false) (source : length (part from n w) ≤ 8192) where
+  abbrev s : List ℕ
+  s = part from n w
+
+  abbrev texts : List (List ℕ)
+  texts = takenFrom (bytes "\\text{") textMark s .blocks
+
+  module _
+      {w′ : List ℕ} {m : Marked}
+      (h : HeldOut w w′ to 0 0 (m .len) (m .used) (m .filed) (takenFrom (bytes "\\text{") textMark s .left) texts)
+    where
+      pub holds-texts : Holds w′ to m (holdTexts s)
+      unfolding holdTexts concat
+      holds-texts =
+          let few = texts-few s free source in
+          let bytes-few = few .0 in
+          let places-few = few .1 in
+          let short = texts-short s free source in
+          let c = h .text .counted in
+          let len : m .len ≤ 8192 = omega arith in
+          let kept : KeepsBlocks w′ texts = keeps-more [] texts (hold .region) refl refl h (keeps-none w (hold .long)) (omega arith) (omega arith) in
+          let used : m .used ≡ length (concat texts) = used-more [] texts (hold .region) refl refl h in
+          let filed : m .filed ≡ 4 * length texts = filed-more [] texts (hold .region) refl refl h in
+          record {
+            text = held-text-read (hold .long) (hold .region) h len;
+            short = len;
+            keeps = rw (append-nil texts) kept;
+            used = rw (append-nil texts) used;
+            filed = rw (append-nil texts) filed;
+          }
+
+-- a second `hold_out`, of what the first has left
+pub holds-both :
+    (s : List ℕ) → hasMark s ≡ false → length s ≤ 8192
+    → {w w′ : List ℕ} {at to : ℕ} {m m′ : Marked} → Holds w at m (holdTexts s) → Hold w at (m .len) to (m .used) (m .filed)
+    → HeldOut w w′ to (m .used) (m .filed) (m′ .len) (m′ .used) (m′ .filed) (takenFrom (bytes "\\mathrm{") romanMark (part at (m .len) w) .left) (takenFrom (bytes "\\mathrm{") romanMark (part at (m .len) w) .blocks)
+    → Holds w′ to m′ (holdBoth s)
+unfolding holdBoth holdTexts concat
+holds-both s free source {w} {w′} {at} {to} {m} {m′} held hold h =
+    let texts = takenFrom (bytes "\\text{") textMark s .blocks in
+    let romans = takenFrom (bytes "\\mathrm{") romanMark (takenFrom (bytes "\\text{") textMark s .left) .blocks in
+    let g = subst (λ l. HeldOut w w′ to (m .used) (m .filed) (m′ .len) (m′ .used) (m′ .filed) (takenFrom (bytes "\\mathrm{") romanMark l .left) (takenFrom (bytes "\\mathrm{") romanMark l .blocks)) (held .text) h in
+    let few = both-few s free source in
+    let bytes-few = few .0 in
+    let places-few = few .1 in
+    let short = both-short s free source in
+    let c = g .text .counted in
+    let len : m′ .len ≤ 8192 = omega arith in
+    let used : m .used ≡ length (concat texts) = held .used ∙ ap (λ bs. length (concat bs)) (append-nil texts) in
+    let filed : m .filed ≡ 4 * length texts = held .filed ∙ ap (λ (bs : List (List ℕ)). 4 * length bs) (append-nil texts) in
+    let kept : KeepsBlocks w texts = subst (KeepsBlocks w) (append-nil texts) (held .keeps) in
+    record {
+      text = held-text-read (hold .long) (hold .region) g len;
+      short = len;
+      keeps = keeps-more texts romans (hold .region) used filed g kept (omega arith) (omega arith);
+      used = used-more texts romans (hold .region) used filed g;
+      filed = filed-more texts romans (hold .region) used filed g;
+    }
+
+-- ---- with what is held
+module _ {w : List ℕ} {at : ℕ} {m : Marked} {h : Held} (holds : Holds w at m h) where
+  pub holds-rewritten :
+      {w′ : List ℕ} {to n : ℕ} {s : List ℕ} → length w′ ≡ length w → drop blocksAt w′ ≡ drop blocksAt w → part to n w′ ≡ s → n ≤ 8192
+      → Holds w′ to (record { len = n; used = m .used; filed = m .filed }) (withText h s)
+  holds-rewritten l beyond text short =
+      record { text = text; short = short; keeps = keeps-beyond l beyond (holds .keeps); used = holds .used; filed = holds .filed }
+
+  module _ (made : WellMade h) where
+    pub holds-lost :
+        hasMark (part blocksAt (m .used) w) || noted (order 0 (length (h .texts)) (part at (m .len) w)) (part at (m .len) w) ≡ lost h
+    unfolding lost
+    holds-lost =
+        ap₂ (λ x y. x || y)
+        (ap (λ n. hasMark (part blocksAt n w)) (holds .used)
+        ∙ ap hasMark (holds .keeps .block ∙ concat-append (h .texts) (h .romans))
+        ∙ has-mark-append (concat (h .texts)) (concat (h .romans))
+        ∙ ap (λ t. t || hasMark (concat (h .romans))) (concat-mark-free (h .texts) (made .texts)))
+        (ap (λ s. noted (order 0 (length (h .texts)) s) s) (holds .text))
+
+    -- ---- putting back
+    module _ {to : ℕ} (source : at + 8192 ≤ blocksAt) (region : to + 8192 ≤ blocksAt) (apart : Apart at (m .len) to 8192) where
+      roman-count : count romanMark (part at (m .len) w) ≡ length (h .romans)
+      roman-count = ap (count romanMark) (holds .text) ∙ made .roman-marks
+
+      pub back-romans : Back w at (m .len) to romanMark (length (h .texts))
+      back-romans =
+          let s = holds .short in
+          let few = holds .keeps .short in
+          let l = length-append (h .texts) (h .romans) in
+          let c = roman-count in
+          record {
+            long = holds .keeps .long;
+            source = omega arith;
+            region = region;
+            apart = apart;
+            short = s;
+            few = omega arith;
+            filed = λ k less. keeps-filed (holds .keeps) k (omega arith);
+          }
+
+      module _
+          {w′ : List ℕ} {n : ℕ}
+          (a : Appended w w′ to 8192 0 n (filled romanMark (storedFrom w (length (h .texts)) (count romanMark (part at (m .len) w))) (part at (m .len) w)))
+        where
+          pub romans-back : Appended w w′ to 8192 0 n (filled romanMark (h .romans) (h .text))
+          romans-back =
+              subst (λ l. Appended w w′ to 8192 0 n l)
+              (ap₂ (filled romanMark)
+              (ap (storedFrom w (length (h .texts))) roman-count
+              ∙ keeps-stored (h .texts) (h .romans) [] (subst (λ bs. KeepsBlocks w (h .texts ++ bs)) (sym (append-nil (h .romans))) (holds .keeps)))
+              (holds .text))
+              a
+
+          -- what stands at `to` then, if it isn't too long, and the blocks as they were
+          module _ (short : n ≤ 8192) where
+            texts-read : part to n w′ ≡ filled romanMark (h .romans) (h .text)
+            texts-read = let l = holds .keeps .long in appended-text romans-back (omega arith) short
+
+            kept-on : KeepsBlocks w′ (h .texts ++ h .romans)
+            kept-on =
+                let l = holds .keeps .long in
+                keeps-beyond (appended-long a) (wrote-beyond {k = blocksAt} (appended-written a (omega arith) .wrote) region) (holds .keeps)
+
+            text-count : count textMark (part to n w′) ≡ length (h .texts)
+            text-count = ap (count textMark) texts-read ∙ text-marks-left made
+
+            pub back-texts : {to′ : ℕ} → to′ + 8192 ≤ blocksAt → Apart to n to′ 8192 → Back w′ to n to′ textMark 0
+            back-texts region′ apart′ =
+                let few = kept-on .short in
+                let l = length-append (h .texts) (h .romans) in
+                let c = text-count in
+                record {
+                  long = kept-on .long;
+                  source = omega arith;
+                  region = region′;
+                  apart = apart′;
+                  short = short;
+                  few = omega arith;
+                  filed = λ k less. keeps-filed kept-on k (omega arith);
+                }
+
+            pub all-back :
+                {w″ : List ℕ} {to′ n′ : ℕ} → Appended w′ w″ to′ 8192 0 n′ (filled textMark (storedFrom w′ 0 (count textMark (part to n w′))) (part to n w′))
+                → Appended w′ w″ to′ 8192 0 n′ (inFull h)
+            unfolding inFull
+            all-back {w″} {to′} {n′} b =
+                subst (λ l. Appended w′ w″ to′ 8192 0 n′ l)
+                (ap₂ (filled textMark) (ap (storedFrom w′ 0) text-count ∙ keeps-stored [] (h .texts) (h .romans) kept-on) texts-read)
+                b

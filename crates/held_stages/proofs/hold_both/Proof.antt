@@ -1,0 +1,77 @@
+-- `held_stages::hold_both` meets its contract: two passes, the second over what the first has left. Assumes nothing.
+use native.Mathlib.Omega.{arith}
+use mathlib.Core.Path.{sym, _∙_}
+use Rattle.held_stages.specs.Outside.{second-fits, second-low, both-none, hold-second, second-extra, both-counted}
+use borrow.Author.Needs.{needs}
+use borrow.Author.Tests.{not-true}
+use Rattle.held_stages.proofs.hold_both.Statement.{statement}
+use Rattle.held_stages.proofs.hold_both.Tie as tie
+
+add-end : tie.Need-add-end
+add-end c =
+    let at-start : tie.Start = search in
+    let h = second-fits (at-start .pre) (c .before .before .hold-texts .ensures) in omega arith
+
+part-contains-end : tie.Need-part-contains-end
+part-contains-end c =
+    let at-start : tie.Start = search in
+    let h = second-fits (at-start .pre) (c .before .before .before .hold-texts .ensures) in let l = c .before .before .before .hold-texts .ensures .holds .keeps .long in omega arith
+
+returns : tie.Need-returns
+returns c =
+    let at-hold-texts : tie.After-hold-texts = search in
+    let at-start : tie.Start = search in
+    both-none (at-start .pre) (at-hold-texts .hold-texts .ensures) (sym (c .before .contains .ensures) ∙ not-true _ (c .if1 .taken))
+
+sub-to : tie.Need-sub-to
+sub-to c =
+    let at-hold-texts : tie.After-hold-texts = search in
+    let at-start : tie.Start = search in
+    let h = second-low (at-start .pre) (at-hold-texts .hold-texts .ensures) in omega arith
+
+mul-hold-out : tie.Need-mul-hold-out
+mul-hold-out c =
+    let at-hold-texts : tie.After-hold-texts = search in
+    let at-start : tie.Start = search in
+    let h = hold-second (at-start .pre) (at-hold-texts .hold-texts .ensures) .small in omega arith
+
+hold-out-requires : tie.Need-hold-out-requires
+hold-out-requires c κs =
+    let at-hold-texts : tie.After-hold-texts = search in
+    let at-start : tie.Start = search in
+    (hold-second (at-start .pre) (at-hold-texts .hold-texts .ensures), omega arith)
+
+sub-t27 : tie.Need-sub-t27
+sub-t27 c =
+    let at-hold-out : tie.After-hold-out = search in
+    let at-hold-texts : tie.After-hold-texts = search in
+    let at-start : tie.Start = search in
+    second-extra (at-start .pre) (at-hold-texts .hold-texts .ensures) (at-hold-out .hold-out .ensures)
+
+returns-2 : tie.Need-returns-2
+returns-2 c =
+    let at-hold-out : tie.After-hold-out = search in
+    let at-hold-texts : tie.After-hold-texts = search in
+    let at-start : tie.Start = search in
+    both-counted (at-start .pre) (at-hold-texts .hold-texts .ensures) (at-hold-out .hold-out .ensures)
+
+pub hold-both-spec : {M : Type 1} → statement M
+hold-both-spec =
+    tie.close
+    (tie.spec
+    (λ c κs. search needs)
+    add-end
+    (λ c. search needs)
+    (λ c. search needs)
+    part-contains-end
+    (λ c. search needs)
+    (λ c κs. search needs)
+    (λ c. search needs)
+    returns
+    sub-to
+    (λ c. search needs)
+    mul-hold-out
+    hold-out-requires
+    sub-t27
+    (λ c. search needs)
+    returns-2)

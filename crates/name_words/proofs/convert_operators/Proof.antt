@@ -1,0 +1,21 @@
+-- `name_words::convert_operators` meets its contract: its rows are those of the table. Assumes nothing.
+use mathlib.Core.Path.{refl}
+use Rattle.spec.specs.Rows.{operatorReplacements}
+use Rattle.spec.specs.Words.{replaceRows}
+use Rattle.name_entry.specs.Sized.{within-none, staged-alike}
+use Rattle.name_greek.specs.Rows.{rowsOf, fairTable}
+use Rattle.name_tables.specs.Kinds.{rows-replaced}
+use borrow.Author.Needs.{needs}
+use Rattle.name_words.proofs.convert_operators.Statement.{statement}
+use Rattle.name_words.proofs.convert_operators.Tie as tie
+
+apply-rows-requires : tie.Need-apply-rows-requires
+unfolding fairTable
+apply-rows-requires c κs = (c .before .before .before .pre, (within-none (c .before .before .before .args .text) (c .before .before .before .pre), refl))
+
+returns : tie.Need-returns
+unfolding rowsOf
+returns c = staged-alike (replaceRows operatorReplacements) (λ s. rows-replaced operatorReplacements s) (c .before .before .apply-rows .ensures .staged)
+
+pub convert-operators-spec : {M : Type 1} → statement M
+convert-operators-spec = tie.close (tie.spec (λ c. search needs) apply-rows-requires (λ c. search needs) returns)

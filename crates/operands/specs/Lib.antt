@@ -1,4 +1,0 @@
--- What the contracts of `operands` cite, and the laws that the searches on both sides of a slash share.
-pub mod Places
-pub mod Strip
-pub mod Groups

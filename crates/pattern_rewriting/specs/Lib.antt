@@ -1,0 +1,3 @@
+-- What the contracts of `pattern_rewriting` cite.
+pub mod Edits
+pub mod Turns

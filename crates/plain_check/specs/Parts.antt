@@ -1,0 +1,101 @@
+-- How parts that were read make a larger one. Assumes nothing.
+--     leaf, join, over, withScripts, wrap, asScript     of parts
+--     found, adjoined, behind, divided, scripted, closed, enclosedScript   the same where there may be nothing, with what the rules forbid
+--     JoinFits, FitBehind, ReadWithin                            what keeps counts small
+use mathlib.Core.Bool.{Bool, true, false, not, _&&_, _||_}
+use mathlib.Core.List.{List}
+use Prim.Native.Nat.{ℕ, _+_, _≤_, _<_, _^_}
+use lib.Dec.{ltb}
+use lib.ListN.{length}
+use Rattle.spec.specs.Symbols.{is}
+use Rattle.plain_check.specs.declared.Part.{Part}
+use Rattle.plain_check.specs.declared.Read.{Read}
+use Rattle.plain_check.specs.declared.Read.the-variants.{Found, Nothing}
+use Rattle.plain_check.specs.Tokens.{at}
+
+abbrev pub bytesOf : Read → ℕ
+bytesOf Nothing = 0
+bytesOf (Found p) = p .used
+
+abbrev pub atomsOf : Read → ℕ
+atomsOf Nothing = 0
+atomsOf (Found p) = p .atoms
+
+-- the bytes and the atoms of two parts with a gap between them are machine numbers
+pub record JoinFits (p : Part) (gap : ℕ) (r : Read) : Type 0 where
+  pub bytes : p .used + gap + bytesOf r < 2 ^ 64
+  pub atoms : p .atoms + atomsOf r < 2 ^ 64
+
+-- the same where there may be nothing in front
+abbrev pub FitBehind : Read → ℕ → Read → Type 0
+FitBehind Nothing gap r = Unit {0}
+FitBehind (Found p) gap r = JoinFits p gap r
+
+-- what was read lies in the text, and its atoms among its bytes
+pub record ReadWithin (r : Read) (xs : List ℕ) : Type 0 where
+  pub bytes : bytesOf r ≤ length xs
+  pub atoms : atomsOf r ≤ bytesOf r
+
+-- one answer or the other; only the one that is chosen is computed
+abbrev pub either : Bool → (Unit {0} → Read) → (Unit {0} → Read) → Read
+either true a b = a tt
+either false a b = b tt
+
+abbrev pub andThen : Read → (Part → Read) → Read
+andThen Nothing f = Nothing
+andThen (Found p) f = f p
+
+-- ---- parts
+-- no more than its bytes: an atom, a script of one symbol, or a script that is not there
+abbrev pub leaf : ℕ → ℕ → Bool → Part
+leaf n atoms scriptless = record { used = n; atoms = atoms; lone = ltb 0 atoms; wrapped = false; slashless = true; scriptless = scriptless }
+
+abbrev pub join : Part → ℕ → Part → Part
+join p gap q =
+    record {
+      used = p .used + gap + q .used;
+      atoms = p .atoms + q .atoms;
+      lone = false;
+      wrapped = false;
+      slashless = p .slashless && q .slashless;
+      scriptless = p .scriptless && q .scriptless;
+    }
+
+abbrev pub over : Part → Part → Part
+over p q = record { used = p .used + 1 + q .used; atoms = p .atoms + q .atoms; lone = false; wrapped = false; slashless = false; scriptless = p .scriptless && q .scriptless }
+
+abbrev pub withScripts : Part → Part → Part
+withScripts p q = record { used = p .used + q .used; atoms = p .atoms + q .atoms; lone = q .scriptless; wrapped = false; slashless = q .slashless; scriptless = q .scriptless }
+
+abbrev pub wrap : Part → Part
+wrap p = record { used = p .used + 2; atoms = p .atoms; lone = false; wrapped = p .lone; slashless = p .slashless; scriptless = p .scriptless }
+
+abbrev pub asScript : Part → Part
+asScript p = record { used = p .used + 1; atoms = p .atoms; lone = false; wrapped = false; slashless = p .slashless; scriptless = false }
+
+-- ---- what is forbidden, and where there is nothing
+abbrev pub found : Part → Read
+found p = Found p
+
+abbrev pub adjoined : Part → ℕ → Read → Read
+adjoined p gap r = andThen r λ q. Found (join p gap q)
+
+abbrev pub behind : Read → ℕ → Read → Read
+behind Nothing gap r = r
+behind (Found p) gap r = adjoined p gap r
+
+-- a numerator with a slash, or an operand that is an atom in parentheses
+abbrev pub indivisible : Part → Part → Bool
+indivisible p q = not (p .slashless) || p .wrapped || q .wrapped
+
+abbrev pub divided : Part → Read → Read
+divided p r = andThen r λ q. either (indivisible p q) (λ _. Nothing) (λ _. Found (over p q))
+
+abbrev pub scripted : Part → Read → Read
+scripted p r = andThen r λ q. Found (withScripts p q)
+
+abbrev pub closed : List ℕ → Read → Read
+closed xs r = andThen r λ p. either (is ")" (at xs (p .used))) (λ _. Found (wrap p)) (λ _. Nothing)
+
+abbrev pub enclosedScript : Read → Read
+enclosedScript r = andThen r λ p. either (p .scriptless) (λ _. Found (asScript p)) (λ _. Nothing)

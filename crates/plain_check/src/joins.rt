@@ -1,0 +1,132 @@
+// How parts that were read make a larger one. Where a part is missing, or the rules forbid it, nothing was read.
+use super::Part;
+use super::Read;
+ghost use mathlib.Core.Path.{_≡_};
+ghost use mathlib.Core.Bool.{true};
+ghost use Prim.Native.Nat.{_+_, _<_, _^_};
+ghost use Rattle.plain_check.specs.Parts.{bytesOf, JoinFits, FitBehind, ReadWithin, leaf, found, adjoined, behind, divided, scripted, closed, enclosedScript};
+
+// A part, `gap` bytes and the part after them.
+pub fn adjoined(p: Part, gap: usize, r: Read) -> Read
+    requires { ⌜ JoinFits p gap r ⌝ }
+    ensures { λ a. ⌜ a ≡ adjoined p gap r ⌝ }
+{
+    let Read::Found(q) = r else {
+        return Read::Nothing;
+    };
+    Read::Found(Part {
+        used: p.used + gap + q.used,
+        atoms: p.atoms + q.atoms,
+        lone: false,
+        wrapped: false,
+        slashless: p.slashless & q.slashless,
+        scriptless: p.scriptless & q.scriptless,
+    })
+}
+
+// What was read behind `front` and a gap, joined to it. With nothing in front, it stands by itself.
+pub fn behind(front: Read, gap: usize, r: Read) -> Read
+    requires { ⌜ FitBehind front gap r ⌝ }
+    ensures { λ a. ⌜ a ≡ behind front gap r ⌝ }
+{
+    let Read::Found(p) = front else {
+        return r;
+    };
+    adjoined(p, gap, r)
+}
+
+// A numerator, the slash and the denominator. The numerator holds no slash, and neither is an atom in parentheses.
+pub fn divided(p: Part, r: Read) -> Read
+    requires { ⌜ JoinFits p 1 r ⌝ }
+    ensures { λ a. ⌜ a ≡ divided p r ⌝ }
+{
+    let Read::Found(q) = r else {
+        return Read::Nothing;
+    };
+    if !p.slashless | p.wrapped | q.wrapped {
+        return Read::Nothing;
+    }
+    Read::Found(Part {
+        used: p.used + 1 + q.used,
+        atoms: p.atoms + q.atoms,
+        lone: false,
+        wrapped: false,
+        slashless: false,
+        scriptless: p.scriptless & q.scriptless,
+    })
+}
+
+// An atom of n bytes and its scripts.
+pub fn scripted(n: usize, r: Read) -> Read
+    requires { ⌜ JoinFits (leaf n 1 true) 0 r ⌝ }
+    ensures { λ a. ⌜ a ≡ scripted (leaf n 1 true) r ⌝ }
+{
+    let Read::Found(q) = r else {
+        return Read::Nothing;
+    };
+    Read::Found(Part {
+        used: n + q.used,
+        atoms: 1 + q.atoms,
+        lone: q.scriptless,
+        wrapped: false,
+        slashless: q.slashless,
+        scriptless: q.scriptless,
+    })
+}
+
+// A sum in parentheses: s begins behind the first of them.
+pub fn closed(s: &[u8], r: Read) -> Read
+    requires { ⌜ ReadWithin r (now s) ⌝ }
+    ensures { λ a. ⌜ a ≡ closed (now (s .entry)) r ⌝ }
+{
+    let Read::Found(p) = r else {
+        return Read::Nothing;
+    };
+    let n = p.used;
+    if text_search::symbol(s, n) != b')' {
+        return Read::Nothing;
+    }
+    Read::Found(Part {
+        used: p.used + 2,
+        atoms: p.atoms,
+        lone: false,
+        wrapped: p.lone,
+        slashless: p.slashless,
+        scriptless: p.scriptless,
+    })
+}
+
+// A sum in parentheses as a script, behind its sign. No script occurs in it.
+pub fn enclosed_script(r: Read) -> Read
+    requires { ⌜ bytesOf r + 1 < 2 ^ 64 ⌝ }
+    ensures { λ a. ⌜ a ≡ enclosedScript r ⌝ }
+{
+    let Read::Found(p) = r else {
+        return Read::Nothing;
+    };
+    if !p.scriptless {
+        return Read::Nothing;
+    }
+    Read::Found(Part {
+        used: p.used + 1,
+        atoms: p.atoms,
+        lone: false,
+        wrapped: false,
+        slashless: p.slashless,
+        scriptless: false,
+    })
+}
+
+// A part that is no more than its bytes: an atom, a script of one byte, or a script that is not there.
+pub fn leaf(n: usize, atoms: usize, scriptless: bool) -> Read
+    ensures { λ a. ⌜ a ≡ found (leaf n atoms scriptless) ⌝ }
+{
+    Read::Found(Part {
+        used: n,
+        atoms,
+        lone: 0 < atoms,
+        wrapped: false,
+        slashless: true,
+        scriptless,
+    })
+}

@@ -1,0 +1,153 @@
+-- Calls on plain formulas, with display on and a table of no records, whatever buffers are lent.
+--     call-prints       an accepting call puts out the formula's LaTeX
+--     call-accepts      a call within the limits accepts
+--     accepting-call    there are such calls
+--     calls-apart       two accepting calls that put out the same bytes had the same formula
+use mathlib.Core.Path.{_≡_, refl, sym, ap, _∙_, subst}
+use mathlib.Core.Bool.{Bool, true, false, cond}
+use mathlib.Core.List.{List, [], _++_}
+use mathlib.Core.Option.{Option, none, some, Option·getD}
+use Prim.Native.Nat.{ℕ, _≤_}
+use lib.Dec.{ltb}
+use lib.ListN.{length, take, drop, replicate}
+use lib.Seq.{take-append-seam}
+use borrow.Author.Tests.{le-ltb}
+use Rattle.spec.specs.Symbols.{foreign, all, any}
+use Rattle.spec.specs.Result.{Result, passed, refused, mostSymbols}
+use Rattle.spec.specs.Table.{Definition, definitions, Rearranged, nothing, put, Order}
+use Rattle.spec.specs.Fractions.{mostRounds}
+use Rattle.spec.specs.Pipeline.{typstToLatex, mostFormula, leastWork, definitionsOr, readable, admitted, fitting, converted, answerOf, outputAfter, workAfter, Call}
+use Rattle.spec.specs.Grammar
+use Rattle.spec.specs.Grammar.{Plain}
+use Rattle.plain_printing.specs.Tree.{typstStyle}
+use Rattle.plain_printing.specs.Alphabet.{plainSymbol, all-plain, not-foreign}
+use Rattle.plain_printing.specs.Yields.{Yields, yields-weaken, then-yields}
+use Rattle.plain_printing.specs.TreeOf.{treeOf}
+use Rattle.plain_printing.specs.TreeTexts.{text-tree}
+use Rattle.plain_printing.specs.Sums.{sum-yields, sums-apart}
+
+-- ---- a table of no records leaves one order
+abbrev pub NoRecords : List ℕ → Type 0
+NoRecords table = definitions table ≡ some []
+
+pub empty-table : NoRecords []
+unfolding definitions
+empty-table = refl
+
+rearranged-none : {ds order : List Definition} → Rearranged ds order → ds ≡ [] → order ≡ []
+rearranged-none nothing e = refl
+rearranged-none (put d es fs r) e = cc
+
+pub order-none : (table : List ℕ) → NoRecords table → (order : List Definition) → Order (definitionsOr table) order → order ≡ []
+order-none table h order o = rearranged-none (o .rearranged) (ap (λ (ds : Option (List Definition)). Option·getD ds []) h)
+
+-- ---- the answer of a call
+abbrev pub latexOf : {formula : List ℕ} → Plain formula → List ℕ
+latexOf p = Grammar.latex (p .sum)
+
+-- what numbers 4, 7, 5 and 10 ask of a call on a plain formula: where it holds, no number refuses the call
+pub record WithinLimits {formula : List ℕ} (p : Plain formula) (work output : List ℕ) : Type 0 where
+  pub work-wide : leastWork ≤ length work
+  pub shallow : Grammar.depth (p .sum) ≤ mostRounds
+  pub latex-short : length (latexOf p) ≤ mostSymbols
+  pub output-long : length (latexOf p) ≤ length output
+
+-- a formula that is admitted is not changed
+admitted-only : (formula table work x : List ℕ) → admitted formula table work ≡ passed x → x ≡ formula
+admitted-only formula table work x = narrow (ltb (length work) leastWork) (ltb mostFormula (length formula)) (any foreign formula) (definitions table)
+  where
+    read : (ds : Option (List Definition)) → readable formula ds ≡ passed x → x ≡ formula
+    read none e = cc
+    read (some ds) e = cc
+
+    narrow : (b c d : Bool) (ds : Option (List Definition))
+        → (elim b as (λ b. Result (List ℕ)) [
+          | true ↦ refused 4
+          | false ↦ elim c as (λ c. Result (List ℕ)) [ true ↦ refused 2 | false ↦ elim d as (λ d. Result (List ℕ)) [ true ↦ refused 1 | false ↦ readable formula ds ] ]
+        ])
+        ≡ passed x
+        → x ≡ formula
+    narrow true c d ds e = cc
+    narrow false true d ds e = cc
+    narrow false false true ds e = cc
+    narrow false false false ds e = read ds e
+
+module _ {formula : List ℕ} (p : Plain formula) (table : List ℕ) (empty : NoRecords table) (work output : List ℕ) where
+  symbols-plain : all plainSymbol formula ≡ true
+  symbols-plain = rw (← p .reads, ← text-tree (p .sum) (p .is-proper)) (all-plain typstStyle 0 (treeOf (p .sum)))
+
+  admitted-yields : Yields (WithinLimits p work output) (admitted formula table work) formula
+  admitted-yields =
+      record {
+        passes-only = admitted-only formula table work;
+        passes = λ w. rw (
+          le-ltb (length work) leastWork (w .work-wide),
+          admitted,
+          le-ltb mostFormula (length formula) (p .short),
+          not-foreign formula symbols-plain,
+          empty,
+        );
+      }
+
+  conversion-yields : Yields (WithinLimits p work output) (typstToLatex [] true formula) (latexOf p)
+  conversion-yields =
+      subst (λ (f : List ℕ). Yields (WithinLimits p work output) (typstToLatex [] true f) (latexOf p)) (p .reads)
+      (yields-weaken (λ (w : WithinLimits p work output). record { shallow = w .shallow; short = w .latex-short }) (sum-yields (p .sum) (p .is-proper)))
+
+  fitting-yields : Yields (WithinLimits p work output) (fitting output (latexOf p)) (latexOf p)
+  fitting-yields =
+      record { passes-only = only (ltb (length output) (length (latexOf p))); passes = λ w. rw (le-ltb (length output) (length (latexOf p)) (w .output-long)) }
+    where
+      only : (b : Bool) (x : List ℕ) → cond b (refused 10) (passed (latexOf p)) ≡ passed x → x ≡ latexOf p
+      only true x e = cc
+      only false x e = cc
+
+  converted-yields : Yields (WithinLimits p work output) (converted [] formula table true work output) (latexOf p)
+  unfolding converted
+  converted-yields = then-yields _ (fitting output) (then-yields _ (typstToLatex [] true) admitted-yields conversion-yields) fitting-yields
+
+  pub converted-prints : (x : List ℕ) → converted [] formula table true work output ≡ passed x → x ≡ latexOf p
+  converted-prints = converted-yields .passes-only
+
+  pub converted-accepts : WithinLimits p work output → converted [] formula table true work output ≡ passed (latexOf p)
+  converted-accepts = converted-yields .passes
+
+-- ---- calls: the answer is a byte count, and the output is the bytes from the start of the buffer, as many as it says
+module _ {formula : List ℕ} (p : Plain formula) (table : List ℕ) (empty : NoRecords table) {work output work′ output′ : List ℕ} where
+  call-order : {answer : Result ℕ} (c : Call formula table true work output answer work′ output′) → converted (c .order) formula table true work output ≡ converted [] formula table true work output
+  call-order c = ap (λ (order : List Definition). converted order formula table true work output) (order-none table empty (c .order) (c .ordered))
+
+  pub call-prints : {n : ℕ} → Call formula table true work output (passed n) work′ output′ → take n output′ ≡ latexOf p
+  call-prints {n} c = go (converted [] formula table true work output) refl (c .answers ∙ ap answerOf (call-order c)) (c .writes ∙ ap (λ r. outputAfter r output) (call-order c))
+    where
+      go : (r : Result (List ℕ)) → converted [] formula table true work output ≡ r → passed n ≡ answerOf r → output′ ≡ outputAfter r output → take n output′ ≡ latexOf p
+      go (passed s) h e f =
+          let count : n ≡ length s = cc in
+          rw (f, count) (take-append-seam s (drop (length s) output)) ∙ converted-prints p table empty work output s h
+      go (refused number) h e f = cc
+
+  pub call-accepts : WithinLimits p work output → {answer : Result ℕ} → Call formula table true work output answer work′ output′ → answer ≡ passed (length (latexOf p))
+  call-accepts w c = c .answers ∙ ap answerOf (call-order c ∙ converted-accepts p table empty work output w)
+
+pub accepting-call : {formula : List ℕ} (p : Plain formula) (work output : List ℕ) → WithinLimits p work output
+    → Call formula [] true work output (passed (length (latexOf p))) (replicate (length work) 0) (latexOf p ++ drop (length (latexOf p)) output)
+unfolding definitions
+accepting-call {formula} p work output w =
+    let accepted : converted [] formula [] true work output ≡ passed (latexOf p) = converted-accepts p [] empty-table work output w in
+    record {
+      order = [];
+      ordered = record { rearranged = nothing; longer-first = refl };
+      answers = ap answerOf (sym accepted);
+      clears = ap (λ r. workAfter r work) (sym accepted);
+      writes = ap (λ r. outputAfter r output) (sym accepted);
+    }
+
+-- two calls, each with a table of no records and with buffers of its own
+pub calls-apart : {formula formula₁ : List ℕ} → Plain formula → Plain formula₁ → (table table₁ : List ℕ) → NoRecords table → NoRecords table₁
+    → {work output work′ output′ work₁ output₁ work₁′ output₁′ : List ℕ} {n m : ℕ}
+    → Call formula table true work output (passed n) work′ output′
+    → Call formula₁ table₁ true work₁ output₁ (passed m) work₁′ output₁′
+    → take n output′ ≡ take m output₁′
+    → formula ≡ formula₁
+calls-apart p q table table₁ h k c d e =
+    sym (p .reads) ∙ sums-apart (p .sum) (q .sum) (p .is-proper) (q .is-proper) (sym (call-prints p table h c) ∙ e ∙ call-prints q table₁ k d) ∙ q .reads

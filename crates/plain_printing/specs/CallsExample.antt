@@ -1,0 +1,40 @@
+-- An accepting call: `a/(b/c)` with any buffers that are large enough.
+use mathlib.Core.Path.{_≡_, refl}
+use mathlib.Core.Bool.{true}
+use mathlib.Core.List.{List, [], _++_}
+use Prim.Native.Nat.{ℕ, _≤_}
+use Prim.Native.Char.{code}
+use native.Mathlib.Omega.{arith}
+use lib.ListN.{length, drop, replicate}
+use Rattle.spec.specs.Symbols.{bytes}
+use Rattle.spec.specs.Result.{passed}
+use Rattle.spec.specs.Pipeline.{leastWork, Call}
+use Rattle.spec.specs.Grammar.{variable, Sum, product, factor, fraction, atom, enclosed, Plain, text, latex, depth}
+use Rattle.plain_printing.specs.Calls.{WithinLimits, accepting-call}
+
+abbrev nested : Sum
+nested = product (factor (fraction (atom (variable (code "a") refl)) (enclosed (product (factor (fraction (atom (variable (code "b") refl)) (atom (variable (code "c") refl))))))))
+
+nested-text : text nested ≡ bytes "a/(b/c)"
+unfolding text
+nested-text = refl
+
+nested-latex : latex nested ≡ bytes "\\frac{a}{\\frac{b}{c}}"
+unfolding latex
+nested-latex = refl
+
+nested-depth : depth nested ≡ 2
+unfolding depth
+nested-depth = refl
+
+nested-plain : Plain (bytes "a/(b/c)")
+nested-plain = record { sum = nested; is-proper = refl; reads = nested-text; short = omega arith }
+
+module _ (work output : List ℕ) (wide : leastWork ≤ length work) (long : 21 ≤ length output) where
+  within : WithinLimits nested-plain work output
+  unfolding nested-plain
+  within = record { work-wide = wide; shallow = rw nested-depth (omega arith); latex-short = rw nested-latex (omega arith); output-long = rw nested-latex long }
+
+  pub nested-call : Call (bytes "a/(b/c)") [] true work output (passed 21) (replicate (length work) 0) (bytes "\\frac{a}{\\frac{b}{c}}" ++ drop 21 output)
+  unfolding nested-plain latex
+  nested-call = accepting-call nested-plain work output within

@@ -1,0 +1,89 @@
+-- No text on the way from a plain formula to its LaTeX is longer than the LaTeX.
+use mathlib.Core.Path.{_≡_}
+use mathlib.Core.Bool.{Bool, true, false, not, cond, _&&_}
+use mathlib.Core.List.{List, [], _++_}
+use Prim.Native.Nat.{ℕ, zero, suc, _+_, _≤_}
+use native.Mathlib.Nat.{le-refl}
+use native.Mathlib.Omega.{arith}
+use lib.Dec.{ltb}
+use lib.ListN.{length, length-append}
+use Rattle.spec.specs.Symbols.{bytes}
+use Rattle.spec.specs.Fractions.{frac}
+use Rattle.spec.specs.Grammar.{Atom, variable, greek, number, greekName}
+use Rattle.plain_printing.specs.Tree.{Tree, TreeScript, Style, atom, fraction, group, row, bare, symbol, inner, atomWriting, joinText, operand, slashed, lone, parens, scriptBrackets, slashless, PlainTree, PlainScript, depth, depthScript, write, writeScript, treeLatex}
+use Rattle.plain_printing.specs.Unlatex.{slashless-flat}
+
+append-grows : (s s′ t t′ : List ℕ) → length s ≤ length s′ → length t ≤ length t′ → length (s ++ t) ≤ length (s′ ++ t′)
+append-grows s s′ t t′ p q = omega (arith, length-append s t, length-append s′ t′)
+
+parens-grow : (c : Bool) (s s′ : List ℕ) → length s ≤ length s′ → length (parens false s) ≤ length (parens c s′)
+parens-grow true s s′ p = omega (arith, length-append s (bytes ")"), length-append s′ (bytes "\\right)"))
+parens-grow false s s′ p = omega (arith, length-append s (bytes ")"), length-append s′ (bytes ")"))
+
+group-grows : (b b′ : Bool) (s s′ : List ℕ) → length s ≤ length s′ → length (scriptBrackets b s) ≤ length (scriptBrackets b′ s′)
+group-grows true true s s′ p = omega (arith, length-append s (bytes "}"), length-append s′ (bytes "}"))
+group-grows true false s s′ p = omega (arith, length-append s (bytes "}"), length-append s′ (bytes ")"))
+group-grows false true s s′ p = omega (arith, length-append s (bytes ")"), length-append s′ (bytes "}"))
+group-grows false false s s′ p = omega (arith, length-append s (bytes ")"), length-append s′ (bytes ")"))
+
+operand-longest : (b : Bool) (s : List ℕ) → length (operand b s) ≤ length s + 2
+operand-longest true s = omega arith
+operand-longest false s = omega (arith, length-append s (bytes ")"))
+
+length-frac : (s t : List ℕ) → length (frac s t) ≡ length s + length t + 9
+length-frac s t = omega (arith, length-append s (bytes "}{" ++ (t ++ bytes "}")), length-append t (bytes "}"))
+
+-- a fraction with a slash, and stacked
+slash-grows : (b c : Bool) (s s′ t t′ : List ℕ) → length s ≤ length s′ → length t ≤ length t′ → length (slashed (operand b s) (operand c t)) ≤ length (frac s′ t′)
+slash-grows b c s s′ t t′ p q =
+    omega (arith, operand-longest b s, operand-longest c t, length-append (operand b s) (bytes "/" ++ operand c t), length-frac s′ t′)
+
+frac-grows : (s s′ t t′ : List ℕ) → length s ≤ length s′ → length t ≤ length t′ → length (frac s t) ≤ length (frac s′ t′)
+frac-grows s s′ t t′ p q = omega (arith, length-frac s t, length-frac s′ t′)
+
+-- ---- atoms: in the end every Greek name has its backslash
+lead-grows : (b : Bool) → length (cond b (bytes "\\") []) ≤ 1
+lead-grows true = omega arith
+lead-grows false = omega arith
+
+atom-grows : (k : ℕ) (a : Atom) → length (atomWriting k a) ≤ length (atomWriting 30 a)
+atom-grows k (variable c e) = le-refl _
+atom-grows k (greek i e) = rw e (omega (arith, lead-grows (ltb i k), length-append (cond (ltb i k) (bytes "\\") []) (greekName i)))
+atom-grows k (number ds e b) = le-refl _
+
+-- ---- trees: any text before sizing, and a later text with every fraction stacked
+module _ (k : ℕ) (b c : Bool) (b′ c′ : Bool) where
+  abbrev early : Style
+  early = record { greeks = k; low = b; high = c; sized = false }
+
+  abbrev late : Bool → Style
+  late z = record { greeks = 30; low = b′; high = c′; sized = z }
+
+  mutual
+    unfolding write writeScript
+
+    tree-grows : (z : Bool) (n m : ℕ) (t : Tree) → PlainTree t → depth t ≤ m → length (write early n t) ≤ length (write (late z) m t)
+    tree-grows z n m (atom a l h) p d =
+        append-grows (atomWriting k a) (atomWriting 30 a) _ _ (atom-grows k a)
+        (append-grows (writeScript early n (bytes "_") b l) (writeScript (late z) m (bytes "_") b′ l) _ _ (script-grows z n m (bytes "_") b b′ l (p .0) (omega arith))
+        (script-grows z n m (bytes "^") c c′ h (p .1) (omega arith)))
+    tree-grows z n zero (fraction t u) p d = absurd (omega arith)
+    tree-grows z zero (suc m) (fraction t u) p d =
+        slash-grows (lone t) (lone u) (write early 0 t) (write (late z) 0 t) (write early 0 u) (write (late z) m u) (tree-grows z 0 0 t (p .1) (slashless-flat t (p .0)))
+        (tree-grows z 0 m u (p .2) (omega arith))
+    tree-grows z (suc n) (suc m) (fraction t u) p d =
+        frac-grows (write early 0 t) (write (late z) 0 t) (write early n u) (write (late z) m u) (tree-grows z 0 0 t (p .1) (slashless-flat t (p .0))) (tree-grows z n m u (p .2) (omega arith))
+    tree-grows z n m (group t) p d = parens-grow (z && not (slashless t)) (write early n t) (write (late z) m t) (tree-grows z n m t p d)
+    tree-grows z n m (row t j u) p d =
+        append-grows (write early n t) (write (late z) m t) _ _ (tree-grows z n m t (p .1) (omega arith))
+        (append-grows (joinText j) (joinText j) (write early n u) (write (late z) m u) (le-refl _) (tree-grows z n m u (p .2) (omega arith)))
+
+    script-grows : (z : Bool) (n m : ℕ) (sign : List ℕ) (x y : Bool) (s : TreeScript) → PlainScript s → depthScript s ≤ m
+        → length (writeScript early n sign x s) ≤ length (writeScript (late z) m sign y s)
+    script-grows z n m sign x y bare p d = le-refl _
+    script-grows z n m sign x y (symbol s e) p d = le-refl _
+    script-grows z n m sign x y (inner t) p d =
+        append-grows sign sign _ _ (le-refl _) (group-grows x y (write early n t) (write (late false) m t) (tree-grows false n m t (p .1) d))
+
+pub latex-longest : (k : ℕ) (b c : Bool) (n : ℕ) (t : Tree) → PlainTree t → length (write (record { greeks = k; low = b; high = c; sized = false }) n t) ≤ length (treeLatex t)
+latex-longest k b c n t p = tree-grows k b c true true true n (depth t) t p (le-refl (depth t))

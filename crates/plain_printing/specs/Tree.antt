@@ -1,0 +1,166 @@
+-- Plain formulas as trees, and how a tree is written at each stage.
+use mathlib.Core.Path.{_≡_}
+use mathlib.Core.Bool.{Bool, true, false, not, cond, _&&_}
+use mathlib.Core.List.{List, [], _∷_, _++_}
+use Prim.Native.Nat.{ℕ, zero, suc, max}
+use lib.Dec.{ltb}
+use Rattle.spec.specs.Symbols.{bytes, alnum}
+use Rattle.spec.specs.Fractions.{frac}
+use Rattle.spec.specs.Grammar.{Atom, variable, greek, number, greekName}
+
+pub data Join : Type 0 where
+  beside plus minus : Join
+
+abbrev pub joinText : Join → List ℕ
+joinText beside = bytes " "
+joinText plus = bytes " + "
+joinText minus = bytes " - "
+
+-- A sum is a row of factors with joins between them: products and sums are written alike.
+mutual
+  pub data Tree : Type 0 where
+    atom : Atom → TreeScript → TreeScript → Tree
+    fraction : Tree → Tree → Tree
+    group : Tree → Tree
+    row : Tree → Join → Tree → Tree
+
+  pub data TreeScript : Type 0 where
+    bare : TreeScript
+    symbol : (c : ℕ) → alnum c ≡ true → TreeScript
+    inner : Tree → TreeScript
+
+abbrev pub isRow : Tree → Bool
+isRow (atom a l h) = false
+isRow (fraction t u) = false
+isRow (group t) = false
+isRow (row t j u) = true
+
+-- What a tree must be besides: no slash in a numerator, no script in a script, and in a row the first tree one factor.
+abbrev mutual
+  pub slashless : Tree → Bool
+  slashless (atom a l h) = slashlessScript l && slashlessScript h
+  slashless (fraction n d) = false
+  slashless (group t) = slashless t
+  slashless (row t j u) = slashless t && slashless u
+
+  pub slashlessScript : TreeScript → Bool
+  slashlessScript bare = true
+  slashlessScript (symbol c e) = true
+  slashlessScript (inner t) = slashless t
+
+abbrev mutual
+  pub scriptless : Tree → Bool
+  scriptless (atom a l h) = scriptlessScript l && scriptlessScript h
+  scriptless (fraction n d) = scriptless n && scriptless d
+  scriptless (group t) = scriptless t
+  scriptless (row t j u) = scriptless t && scriptless u
+
+  pub scriptlessScript : TreeScript → Bool
+  scriptlessScript bare = true
+  scriptlessScript (symbol c e) = false
+  scriptlessScript (inner t) = false
+
+abbrev mutual
+  pub PlainTree : Tree → Type 0
+  PlainTree (atom a l h) = PlainScript l × PlainScript h
+  PlainTree (fraction t u) = (slashless t ≡ true) × PlainTree t × PlainTree u
+  PlainTree (group t) = PlainTree t
+  PlainTree (row t j u) = (isRow t ≡ false) × PlainTree t × PlainTree u
+
+  pub PlainScript : TreeScript → Type 0
+  PlainScript bare = Unit {0}
+  PlainScript (symbol c e) = Unit {0}
+  PlainScript (inner t) = (scriptless t ≡ true) × PlainTree t
+
+-- How far a text has come: Greek names marked by their backslash in the rows below a bound, `_` groups in braces, `^` groups in braces, sized.
+pub record Style : Type 0 where
+  pub greeks : ℕ
+  pub low : Bool
+  pub high : Bool
+  pub sized : Bool
+
+abbrev pub unsized : Style → Style
+unsized s = record { greeks = s .greeks; low = s .low; high = s .high; sized = false }
+
+abbrev pub atomWriting : ℕ → Atom → List ℕ
+atomWriting k (variable c e) = c ∷ []
+atomWriting k (greek i e) = cond (ltb i k) (bytes "\\") [] ++ greekName i
+atomWriting k (number ds e b) = ds
+
+-- an operand that is a lone atom has no parentheses
+abbrev pub lone : Tree → Bool
+lone (atom a bare bare) = true
+lone (atom a bare (symbol c e)) = false
+lone (atom a bare (inner t)) = false
+lone (atom a (symbol c e) h) = false
+lone (atom a (inner t) h) = false
+lone (fraction n d) = false
+lone (group t) = false
+lone (row t j u) = false
+
+abbrev pub operand : Bool → List ℕ → List ℕ
+operand true s = s
+operand false s = bytes "(" ++ (s ++ bytes ")")
+
+abbrev pub slashed : List ℕ → List ℕ → List ℕ
+slashed n d = n ++ (bytes "/" ++ d)
+
+abbrev pub parens : Bool → List ℕ → List ℕ
+parens true s = bytes "\\left(" ++ (s ++ bytes "\\right)")
+parens false s = bytes "(" ++ (s ++ bytes ")")
+
+abbrev pub scriptBrackets : Bool → List ℕ → List ℕ
+scriptBrackets true s = bytes "{" ++ (s ++ bytes "}")
+scriptBrackets false s = bytes "(" ++ (s ++ bytes ")")
+
+-- A tree written with the fractions inside fewer than n denominators stacked, and the others with their slash.
+unfoldable mutual
+  pub write : Style → ℕ → Tree → List ℕ
+  write s n (atom a l h) = atomWriting (s .greeks) a ++ (writeScript s n (bytes "_") (s .low) l ++ writeScript s n (bytes "^") (s .high) h)
+  write s zero (fraction t u) = slashed (operand (lone t) (write s 0 t)) (operand (lone u) (write s 0 u))
+  write s (suc n) (fraction t u) = frac (write s 0 t) (write s n u)
+  write s n (group t) = parens (s .sized && not (slashless t)) (write s n t)
+  write s n (row t j u) = write s n t ++ (joinText j ++ write s n u)
+
+  pub writeScript : Style → ℕ → List ℕ → Bool → TreeScript → List ℕ
+  writeScript s n mark braced bare = []
+  writeScript s n mark braced (symbol c e) = mark ++ c ∷ []
+  writeScript s n mark braced (inner t) = mark ++ scriptBrackets braced (write (unsized s) n t)
+
+-- as typed, with the Greek rows below k marked
+abbrev pub typedStyle : ℕ → Style
+typedStyle k = record { greeks = k; low = false; high = false; sized = false }
+
+abbrev pub typstStyle : Style
+typstStyle = typedStyle 0
+
+-- all Greek names marked; are the groups of `_` and of `^` in braces?
+abbrev pub markedStyle : Bool → Bool → Style
+markedStyle below above = record { greeks = 30; low = below; high = above; sized = false }
+
+-- before the fractions, and at the end
+abbrev pub bracedStyle : Style
+bracedStyle = markedStyle true true
+
+abbrev pub finalStyle : Style
+finalStyle = record { greeks = 30; low = true; high = true; sized = true }
+
+-- how many fractions enclose one another by their denominators
+abbrev mutual
+  pub depth : Tree → ℕ
+  depth (atom a l h) = max (depthScript l) (depthScript h)
+  depth (fraction t u) = suc (depth u)
+  depth (group t) = depth t
+  depth (row t j u) = max (depth t) (depth u)
+
+  pub depthScript : TreeScript → ℕ
+  depthScript bare = 0
+  depthScript (symbol c e) = 0
+  depthScript (inner t) = depth t
+
+-- the formula, and its LaTeX
+abbrev pub text : Tree → List ℕ
+text t = write typstStyle 0 t
+
+abbrev pub treeLatex : Tree → List ℕ
+treeLatex t = write finalStyle (depth t) t

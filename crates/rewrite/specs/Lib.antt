@@ -1,3 +1,0 @@
--- What the contracts of `rewrite` cite.
-pub mod Edits
-pub mod Turns

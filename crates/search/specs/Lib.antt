@@ -1,2 +1,0 @@
--- What the contracts of `search` and of the crates above it cite.
-pub mod Search

@@ -1,5 +1,0 @@
--- What the contracts of `symbols` and of the crates above it cite.
-pub mod Parts
-pub mod Places
-pub mod Runs
-pub mod Trim

@@ -1,0 +1,2 @@
+-- What the contracts of `text_search` and of the crates above it cite.
+pub mod Search
