@@ -6,6 +6,8 @@ use mathlib.Core.Logic.{_⊎_, inl, ⊎-elim}
 use Prim.Native.Nat.{ℕ, _≤_, _<_}
 use native.Mathlib.Omega.{arith}
 use lib.ListN.{length}
+use Rattle.spec.specs.Pipeline.{leastWork}
+use Rattle.text_search.specs.Half.{halfWork}
 use Rattle.spec.specs.Result.{_then_, mostSymbols, grown, stage}
 use Rattle.spec.specs.Calls.{convertAttach}
 use Rattle.text_symbols.specs.Parts.{part, length-part}
@@ -32,17 +34,17 @@ settled w w′ place to count counted region held long beyond e =
     record { long = long; answer = ap (λ q. shown q w′) e ∙ right .0; placed = subst Placed (sym e) (right .1); beyond = beyond }
 
 module _ {w : List ℕ} {place : TextPlace} (half : Halved w (place .at) (place .n)) where
-  pub settled-low : {r : Progress} → place .at < 16384 → r ≡ judged (place .at) (place .n) → Settled w w place r
+  pub settled-low : {r : Progress} → place .at < halfWork → r ≡ judged (place .at) (place .n) → Settled w w place r
   settled-low h e =
       settled w w place (place .at) (place .n) (sym (length-part (place .at) (place .n) w (halved-regions half .source)))
       (⊎-elim (λ p. p .0) (λ p. (let z = p .0 in absurd (omega arith))) (half .place)) (λ l. refl) refl refl e
 
-  pub settled-high : {w′ : List ℕ} {count : ℕ} {r : Progress} → Appended w w′ 0 8192 0 count (part (place .at) (place .n) w) → r ≡ judged 0 count → Settled w w′ place r
+  pub settled-high : {w′ : List ℕ} {count : ℕ} {r : Progress} → Appended w w′ 0 mostSymbols 0 count (part (place .at) (place .n) w) → r ≡ judged 0 count → Settled w w′ place r
   settled-high {w′} {count} a e =
       let long = half .long in
       let counted = a .counted in
       settled w w′ place 0 count (omega arith) (inl refl) (λ l. appended-text a (omega arith) l) (appended-long a)
-      (wrote-beyond {k = 32768} (appended-written a (omega arith) .wrote) (omega arith)) e
+      (wrote-beyond {k = leastWork} (appended-written a (omega arith) .wrote) (omega arith)) e
 
 pub attach-answered :
     {w w′ w″ : List ℕ} {p r : Progress} {from n : ℕ} {place : TextPlace} → p ≡ Text from n → Rewritten w w′ from n place → Settled w′ w″ place r

@@ -15,6 +15,8 @@ use lib.Dec.{ltb}
 use lib.ListN.{length, take, drop}
 use lib.Seq.{drop-drop, take-take}
 use borrow.Author.Tests.{lt-ltb, le-ltb}
+use Rattle.spec.specs.Pipeline.{leastWork}
+use Rattle.text_search.specs.Half.{halfWork}
 use Rattle.spec.specs.Result.{mostSymbols}
 use Rattle.spec.specs.Calls.{spliced, latexUnderset, attachOnce, attachTimes, convertAttach}
 use Rattle.spec.specs.Symbols.{bytes, _andThen_, find}
@@ -43,40 +45,40 @@ use Rattle.attach.specs.declared.TextPlace.{TextPlace}
 
 -- ---- the halves of the buffer
 abbrev pub Half : ℕ → ℕ → Type 0
-Half at n = (((at ≡ 0) ⊎ (at ≡ mostSymbols)) × (at + n ≤ 16384)) ⊎ ((at ≡ 16384) × (n ≤ 16384))
+Half at n = (((at ≡ 0) ⊎ (at ≡ mostSymbols)) × (at + n ≤ halfWork)) ⊎ ((at ≡ halfWork) × (n ≤ halfWork))
 
 pub record Halved (w : List ℕ) (at n : ℕ) : Type 0 where
-  pub long : 32768 ≤ length w
+  pub long : leastWork ≤ length w
   pub place : Half at n
-  pub weight-bounded : weight (part at n w) ≤ 16384
+  pub weight-bounded : weight (part at n w) ≤ halfWork
 
 -- the half that a text at this place does not lie in
 abbrev pub otherHalf : ℕ → ℕ
-otherHalf at = cond (ltb at 16384) 16384 0
+otherHalf at = cond (ltb at halfWork) halfWork 0
 
-other-half-low : (at : ℕ) → at < 16384 → otherHalf at ≡ 16384
-other-half-low at h = rw (lt-ltb at 16384 h)
+other-half-low : (at : ℕ) → at < halfWork → otherHalf at ≡ halfWork
+other-half-low at h = rw (lt-ltb at halfWork h)
 
-other-half-high : (at : ℕ) → 16384 ≤ at → otherHalf at ≡ 0
-other-half-high at h = rw (le-ltb at 16384 h)
+other-half-high : (at : ℕ) → halfWork ≤ at → otherHalf at ≡ 0
+other-half-high at h = rw (le-ltb at halfWork h)
 
-pub halved-regions : {w : List ℕ} {at n : ℕ} → Halved w at n → Regions w at n (otherHalf at) 16384 0
+pub halved-regions : {w : List ℕ} {at n : ℕ} → Halved w at n → Regions w at n (otherHalf at) halfWork 0
 halved-regions {w} {at} {n} half = ⊎-elim (λ p. low (p .1) (⊎-elim (λ z. omega arith) (λ z. omega arith) (p .0))) (λ p. high (p .0) (p .1)) (half .place)
   where
-    low : at + n ≤ 16384 → at < 16384 → Regions w at n (otherHalf at) 16384 0
+    low : at + n ≤ halfWork → at < halfWork → Regions w at n (otherHalf at) halfWork 0
     low fits h =
         let l = half .long in let o = other-half-low at h in
         record { source = omega arith; region = omega arith; apart = inl (omega arith); short = omega arith; small = omega arith }
 
-    high : at ≡ 16384 → n ≤ 16384 → Regions w at n (otherHalf at) 16384 0
+    high : at ≡ halfWork → n ≤ halfWork → Regions w at n (otherHalf at) halfWork 0
     high here fits =
         let l = half .long in let o = other-half-high at (omega arith) in
         record { source = omega arith; region = omega arith; apart = inr (omega arith); short = omega arith; small = omega arith }
 
-other-half-place : (at n : ℕ) → n ≤ 16384 → Half (otherHalf at) n
-other-half-place at n h = go (decLt at 16384)
+other-half-place : (at n : ℕ) → n ≤ halfWork → Half (otherHalf at) n
+other-half-place at n h = go (decLt at halfWork)
   where
-    go : Dec (at < 16384) → Half (otherHalf at) n
+    go : Dec (at < halfWork) → Half (otherHalf at) n
     go (yes l) = inr (other-half-low at l, h)
     go (no l) = let o = other-half-high at (omega arith) in inl (inl o, omega arith)
 
@@ -90,12 +92,12 @@ ready-halved {w} {p} {from} {n} ready e =
 
 -- what lies behind both halves is as it was
 abbrev pub Beyond : List ℕ → List ℕ → Type 0
-Beyond w w′ = drop 32768 w′ ≡ drop 32768 w
+Beyond w w′ = drop leastWork w′ ≡ drop leastWork w
 
-other-half-within : (at : ℕ) → otherHalf at + 16384 ≤ 32768
-other-half-within at = go (decLt at 16384)
+other-half-within : (at : ℕ) → otherHalf at + halfWork ≤ leastWork
+other-half-within at = go (decLt at halfWork)
   where
-    go : Dec (at < 16384) → otherHalf at + 16384 ≤ 32768
+    go : Dec (at < halfWork) → otherHalf at + halfWork ≤ leastWork
     go (yes l) = let o = other-half-low at l in omega arith
     go (no l) = let o = other-half-high at (omega arith) in omega arith
 
@@ -183,7 +185,7 @@ module _ {w : List ℕ} {at n : ℕ} (half : Halved w at n) {r : Found} (finds :
                 (ap₂ (λ x m. x ++ latex ++ drop (suc (7 + m)) (drop i text)) (until-drop text i (omega arith)) long
                 ∙ ap (λ l. take i text ++ latex ++ l) (drop-drop (suc (7 + k)) i text ∙ ap (λ x. drop x text) next))
 
-            pub turned-to : {w′ : List ℕ} {count : ℕ} → Appended w w′ (otherHalf at) 16384 0 count (undersetAt w at n i k base below) → Turned w w′ at n (To (otherHalf at) count)
+            pub turned-to : {w′ : List ℕ} {count : ℕ} → Appended w w′ (otherHalf at) halfWork 0 count (undersetAt w at n i k base below) → Turned w w′ at n (To (otherHalf at) count)
             turned-to {w′} {count} a =
                 let s = part at n w in
                 let t = underset s i k (spanned below s) (spanned base s) in
@@ -196,7 +198,7 @@ module _ {w : List ℕ} {at n : ℕ} (half : Halved w at n) {r : Found} (finds :
                 record {
                   long = l;
                   left = (record { long = omega arith; place = other-half-place at count (omega arith); weight-bounded = omega arith }, rewritten ∙ ap some (sym same-text));
-                  beyond = wrote-beyond {k = 32768} (appended-written a (halved-regions half .region) .wrote) (other-half-within at);
+                  beyond = wrote-beyond {k = leastWork} (appended-written a (halved-regions half .region) .wrote) (other-half-within at);
                 }
 
 -- ---- the turns

@@ -8,6 +8,7 @@ ghost use mathlib.Core.Path.{_≡_};
 ghost use mathlib.Core.List.{_++_};
 ghost use Prim.Native.Nat.{_+_, _*_, _≤_};
 ghost use lib.ListN.{length};
+ghost use Rattle.text_search.specs.Half.{halfWork};
 ghost use Rattle.spec.specs.Result.{stage};
 ghost use Rattle.spec.specs.Symbols.{bytes};
 ghost use Rattle.spec.specs.Calls.{bottom, subscript, latexUnderset, convertAttach};
@@ -100,8 +101,8 @@ fn attachment_of(s: &[u8], start: usize, k: usize) -> Attachment
 
 // Appends the `n` symbols at `from`, with `\;` for each `\,`.
 fn put_subscript(work: &mut [u8], to: usize, count: usize, from: usize, n: usize) -> usize
-    requires { ⌜ Regions (now work) from n to 16384 count ⌝ }
-    ensures { λ r. ⌜ Appended (now (work .entry)) (now (work .exit)) to 16384 count r (replace (bytes "\\,") (bytes "\\;") (part from n (now (work .entry)))) ⌝ }
+    requires { ⌜ Regions (now work) from n to halfWork count ⌝ }
+    ensures { λ r. ⌜ Appended (now (work .entry)) (now (work .exit)) to halfWork count r (replace (bytes "\\,") (bytes "\\;") (part from n (now (work .entry)))) ⌝ }
 {
     let end = from + n;
     let mut written = count;
@@ -121,8 +122,8 @@ fn put_subscript(work: &mut [u8], to: usize, count: usize, from: usize, n: usize
 
 // Appends `\underset{`, the subscript of `n` symbols at `from`, and `}{`.
 fn put_below(work: &mut [u8], to: usize, count: usize, from: usize, n: usize) -> usize
-    requires { ⌜ Regions (now work) from n to 16384 (count + 16) ⌝ }
-    ensures { λ r. ⌜ Appended (now (work .entry)) (now (work .exit)) to 16384 count r (bytes "\\underset{" ++ replace (bytes "\\,") (bytes "\\;") (part from n (now (work .entry))) ++ bytes "}{") × (r ≤ count + 2 * n + 16) ⌝ }
+    requires { ⌜ Regions (now work) from n to halfWork (count + 16) ⌝ }
+    ensures { λ r. ⌜ Appended (now (work .entry)) (now (work .exit)) to halfWork count r (bytes "\\underset{" ++ replace (bytes "\\,") (bytes "\\;") (part from n (now (work .entry))) ++ bytes "}{") × (r ≤ count + 2 * n + 16) ⌝ }
 {
     let opened = text::put_all(work, to, HALF, count, b"\\underset{");
     let filled = put_subscript(work, to, opened, from, n);
@@ -139,9 +140,9 @@ fn put_underset(
     base: usize,
     m: usize,
 ) -> usize
-    requires { ⌜ Regions (now work) from n to 16384 (count + 16) ⌝ }
-    requires { ⌜ Regions (now work) base m to 16384 (count + 16) ⌝ }
-    ensures { λ r. ⌜ Appended (now (work .entry)) (now (work .exit)) to 16384 count r (latexUnderset (part from n (now (work .entry))) (part base m (now (work .entry)))) × (r ≤ count + 2 * n + m + 17) ⌝ }
+    requires { ⌜ Regions (now work) from n to halfWork (count + 16) ⌝ }
+    requires { ⌜ Regions (now work) base m to halfWork (count + 16) ⌝ }
+    ensures { λ r. ⌜ Appended (now (work .entry)) (now (work .exit)) to halfWork count r (latexUnderset (part from n (now (work .entry))) (part base m (now (work .entry)))) × (r ≤ count + 2 * n + m + 17) ⌝ }
 {
     let below = put_below(work, to, count, from, n);
     let filled = text::copy(work, base, m, to, HALF, below);
@@ -159,9 +160,9 @@ fn rewrite_attach(
     base: Span,
     below: Span,
 ) -> usize
-    requires { ⌜ Regions (now work) from n to 16384 0 ⌝ }
+    requires { ⌜ Regions (now work) from n to halfWork 0 ⌝ }
     requires { ⌜ ArgumentsWithin (i + 7) k base below × (i + 7 + k + 1 ≤ n) ⌝ }
-    ensures { λ r. ⌜ Appended (now (work .entry)) (now (work .exit)) to 16384 0 r (undersetAt (now (work .entry)) from n i k base below) ⌝ }
+    ensures { λ r. ⌜ Appended (now (work .entry)) (now (work .exit)) to halfWork 0 r (undersetAt (now (work .entry)) from n i k base below) ⌝ }
 {
     let behind = from + (i + OPEN + k + 1);
     let before = text::copy(work, from, i, to, HALF, 0);

@@ -8,7 +8,7 @@ use text_symbols::Class;
 use text_symbols::Span;
 ghost use Prim.Native.Nat.{_+_, _≤_, _<_};
 ghost use lib.ListN.{length};
-ghost use Rattle.spec.specs.Result.{stage};
+ghost use Rattle.spec.specs.Result.{stage, mostSymbols};
 ghost use Rattle.spec.specs.Calls.{convertBinom};
 ghost use Rattle.text_symbols.specs.Parts.{part};
 ghost use Rattle.text.specs.Writer.{Room, Appended, Apart, Regions};
@@ -28,10 +28,10 @@ fn put_binom(
     b: usize,
     n: usize,
 ) -> usize
-    requires { ⌜ Room (now work) to 8192 count (m + n + 64) ⌝ }
+    requires { ⌜ Room (now work) to mostSymbols count (m + n + 64) ⌝ }
     requires { ⌜ (a + m ≤ length (now work)) × (b + n ≤ length (now work)) ⌝ }
-    requires { ⌜ Apart a m to 8192 × Apart b n to 8192 ⌝ }
-    ensures { λ r. ⌜ Appended (now (work .entry)) (now (work .exit)) to 8192 count r (latexBinom (part a m (now (work .entry))) (part b n (now (work .entry)))) ⌝ }
+    requires { ⌜ Apart a m to mostSymbols × Apart b n to mostSymbols ⌝ }
+    ensures { λ r. ⌜ Appended (now (work .entry)) (now (work .exit)) to mostSymbols count r (latexBinom (part a m (now (work .entry))) (part b n (now (work .entry)))) ⌝ }
 {
     let first = put_call(work, to, count, b"\\binom{", a, m, b"}{");
     let second = text::copy(work, b, n, to, text::CAP, first);
@@ -48,10 +48,10 @@ fn put_parted(
     k: usize,
     comma: usize,
 ) -> usize
-    requires { ⌜ Room (now work) to 8192 count (k + 64) ⌝ }
+    requires { ⌜ Room (now work) to mostSymbols count (k + 64) ⌝ }
     requires { ⌜ (inside + k ≤ length (now work)) × (comma < k) ⌝ }
-    requires { ⌜ Apart inside k to 8192 ⌝ }
-    ensures { λ r. ⌜ Appended (now (work .entry)) (now (work .exit)) to 8192 count r (parted (part inside k (now (work .entry))) comma) × (r ≤ count + (k + 64)) ⌝ }
+    requires { ⌜ Apart inside k to mostSymbols ⌝ }
+    ensures { λ r. ⌜ Appended (now (work .entry)) (now (work .exit)) to mostSymbols count r (parted (part inside k (now (work .entry))) comma) × (r ≤ count + (k + 64)) ⌝ }
 {
     let close = inside + k;
     let first = text_symbols::trim(
@@ -83,8 +83,8 @@ fn put_parted(
 
 // Writes the `n` symbols at `from` to `to`, each binomial rewritten. The result is the finished text's length.
 fn rewrite_binoms(work: &mut [u8], from: usize, n: usize, to: usize) -> usize
-    requires { ⌜ Regions (now work) from n to 8192 0 × (n ≤ 8192) ⌝ }
-    ensures { λ r. ⌜ Appended (now (work .entry)) (now (work .exit)) to 8192 0 r (convertBinom (part from n (now (work .entry)))) ⌝ }
+    requires { ⌜ Regions (now work) from n to mostSymbols 0 × (n ≤ mostSymbols) ⌝ }
+    ensures { λ r. ⌜ Appended (now (work .entry)) (now (work .exit)) to mostSymbols 0 r (convertBinom (part from n (now (work .entry)))) ⌝ }
 {
     let end = from + n;
     let mut count = 0;

@@ -6,6 +6,7 @@ use borrow.Author.Tests.{eqb-true}
 use mathlib.Core.List.{List, _∷_}
 use mathlib.Core.Option.{none, some}
 use Prim.Native.Nat.{ℕ, _+_, _≤_}
+use Prim.Native.Char.{code}
 use native.Mathlib.Numerals.{add-one}
 use native.Mathlib.Omega.{arith}
 use lib.Dec.{eqb}
@@ -28,10 +29,10 @@ balanced b neither = b
 module _ (o c x : ℕ) (s : List ℕ) where
   pub comma-here : is "," x && eqb o c ≡ true → commaBehind o c (x ∷ s) ≡ some s
   unfolding commaBehind
-  comma-here e = go (eqb x 44) refl e
+  comma-here e = go (eqb x (code ",")) refl e
     where
-      go : (t : Bool) → eqb x 44 ≡ t → t && eqb o c ≡ true → commaBehind o c (x ∷ s) ≡ some s
-      go true f e = ap (λ y. commaBehind o c (y ∷ s)) (eqb-true x 44 f) ∙ rw (e, commaBehind)
+      go : (t : Bool) → eqb x (code ",") ≡ t → t && eqb o c ≡ true → commaBehind o c (x ∷ s) ≡ some s
+      go true f e = ap (λ y. commaBehind o c (y ∷ s)) (eqb-true x (code ",") f) ∙ rw (e, commaBehind)
       go false f e = absurd (false≢true e)
 
   pub comma-past :

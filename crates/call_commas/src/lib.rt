@@ -4,6 +4,7 @@ use text_search::Found;
 ghost use mathlib.Core.Path.{_≡_};
 ghost use Prim.Native.Nat.{_≤_, _<_, _+_};
 ghost use lib.ListN.{length};
+ghost use Rattle.spec.specs.Result.{mostSymbols};
 ghost use Rattle.spec.specs.Closing.{anySide, findCommaInArgs, findUnescapedComma};
 ghost use Rattle.text_search.specs.Search.{Closes};
 ghost use Rattle.call_commas.specs.Commas.{opener, closer, balanced};
@@ -57,7 +58,7 @@ fn is_closer(b: u8) -> bool
 
 // The offset of the first comma that is at the top level.
 pub fn find_comma_in_args(s: &[u8]) -> Found
-    requires { ⌜ length (now s) ≤ 8192 ⌝ }
+    requires { ⌜ length (now s) ≤ mostSymbols ⌝ }
     ensures { λ r. ⌜ Closes (now (s .entry)) r (findCommaInArgs (now (s .entry))) ⌝ }
 {
     let mut balance = Balance::new();
@@ -93,7 +94,7 @@ pub fn find_unescaped_comma(s: &[u8]) -> Found
 // The end of the part that begins at `start`, of the parts that commas at the top level make of the text: the Rust's vector of
 // parts is these, one after another, the next beginning behind the comma.
 pub fn split_top_level_commas(s: &[u8], start: usize) -> usize
-    requires { ⌜ (start ≤ length (now s)) × (length (now s) ≤ 8192) ⌝ }
+    requires { ⌜ (start ≤ length (now s)) × (length (now s) ≤ mostSymbols) ⌝ }
     ensures { λ r. ⌜ Splits (now (s .entry)) start r ⌝ }
 {
     let Found::At(k) = find_comma_in_args(&s[start..]) else {

@@ -8,7 +8,8 @@ use text_symbols::Span;
 ghost use Prim.Native.Nat.{_+_, _-_, _≤_};
 ghost use mathlib.Core.List.{_++_};
 ghost use lib.ListN.{length};
-ghost use Rattle.spec.specs.Result.{stage};
+ghost use Rattle.text_search.specs.Half.{halfWork};
+ghost use Rattle.spec.specs.Result.{stage, mostSymbols};
 ghost use Rattle.spec.specs.Calls.{convertCalls};
 ghost use Rattle.text_symbols.specs.Parts.{part};
 ghost use Rattle.text_symbols.specs.Trim.{Within, Narrowed, spanned};
@@ -18,7 +19,7 @@ ghost use Rattle.call_rewriting.specs.Delimiters.{Called, CallTextsFit, 
 
 // The length of what stands inside the call that the text begins with.
 pub fn call_at(s: &[u8], name: &[u8]) -> Found
-    requires { ⌜ length (now s) ≤ 16384 ⌝ }
+    requires { ⌜ length (now s) ≤ halfWork ⌝ }
     ensures { λ r. ⌜ Called (now (name .entry)) (now (s .entry)) r ⌝ }
 {
     if text_search::starts_with(s, name) {
@@ -53,10 +54,10 @@ pub fn put_call(
     k: usize,
     right: &[u8],
 ) -> usize
-    requires { ⌜ Room (now work) to 8192 count (length (now left) + (k + length (now right))) ⌝ }
+    requires { ⌜ Room (now work) to mostSymbols count (length (now left) + (k + length (now right))) ⌝ }
     requires { ⌜ inside + k ≤ length (now work) ⌝ }
-    requires { ⌜ Apart inside k to 8192 ⌝ }
-    ensures { λ r. ⌜ Appended (now (work .entry)) (now (work .exit)) to 8192 count r (now (left .entry) ++ part inside k (now (work .entry)) ++ now (right .entry)) ⌝ }
+    requires { ⌜ Apart inside k to mostSymbols ⌝ }
+    ensures { λ r. ⌜ Appended (now (work .entry)) (now (work .exit)) to mostSymbols count r (now (left .entry) ++ part inside k (now (work .entry)) ++ now (right .entry)) ⌝ }
 {
     let opened = text::put_all(work, to, text::CAP, count, left);
     let filled = text::copy(work, inside, k, to, text::CAP, opened);
@@ -74,9 +75,9 @@ fn rewrite_calls(
     right: &[u8],
     trims: bool,
 ) -> usize
-    requires { ⌜ Regions (now work) from n to 8192 0 ⌝ }
+    requires { ⌜ Regions (now work) from n to mostSymbols 0 ⌝ }
     requires { ⌜ CallTextsFit (now name) (now left) (now right) ⌝ }
-    ensures { λ r. ⌜ Appended (now (work .entry)) (now (work .exit)) to 8192 0 r (convertCalls (now (name .entry)) (delimited trims (now (left .entry)) (now (right .entry))) (part from n (now (work .entry)))) ⌝ }
+    ensures { λ r. ⌜ Appended (now (work .entry)) (now (work .exit)) to mostSymbols 0 r (convertCalls (now (name .entry)) (delimited trims (now (left .entry)) (now (right .entry))) (part from n (now (work .entry)))) ⌝ }
 {
     let end = from + n;
     let mut count = 0;

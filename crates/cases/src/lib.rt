@@ -8,7 +8,7 @@ use text_symbols::Span;
 ghost use Prim.Native.Nat.{_+_, _-_, _*_, _≤_};
 ghost use mathlib.Core.List.{_++_};
 ghost use lib.ListN.{length};
-ghost use Rattle.spec.specs.Result.{stage};
+ghost use Rattle.spec.specs.Result.{stage, mostSymbols};
 ghost use Rattle.spec.specs.Calls.{latexCases, convertCases};
 ghost use Rattle.text_symbols.specs.Parts.{part};
 ghost use Rattle.text.specs.Writer.{Room, Appended, Apart, Regions};
@@ -24,7 +24,7 @@ pub struct Branch {
 
 // The branch of `s` that begins at `start`.
 fn branch_at(s: &[u8], start: usize) -> Branch
-    requires { ⌜ (start ≤ length (now s)) × (length (now s) ≤ 8192) ⌝ }
+    requires { ⌜ (start ≤ length (now s)) × (length (now s) ≤ mostSymbols) ⌝ }
     ensures { λ r. ⌜ Branched (now (s .entry)) start r ⌝ }
 {
     let comma = call_commas::split_top_level_commas(s, start);
@@ -38,10 +38,10 @@ fn branch_at(s: &[u8], start: usize) -> Branch
 
 // Appends the `k` symbols at `from`, behind a separator if they are not the first.
 fn put_branch(work: &mut [u8], to: usize, count: usize, later: bool, from: usize, k: usize) -> usize
-    requires { ⌜ Room (now work) to 8192 count (k + 4) ⌝ }
+    requires { ⌜ Room (now work) to mostSymbols count (k + 4) ⌝ }
     requires { ⌜ from + k ≤ length (now work) ⌝ }
-    requires { ⌜ Apart from k to 8192 ⌝ }
-    ensures { λ r. ⌜ Appended (now (work .entry)) (now (work .exit)) to 8192 count r (separator later ++ part from k (now (work .entry))) ⌝ }
+    requires { ⌜ Apart from k to mostSymbols ⌝ }
+    ensures { λ r. ⌜ Appended (now (work .entry)) (now (work .exit)) to mostSymbols count r (separator later ++ part from k (now (work .entry))) ⌝ }
 {
     if later {
         let parted = text::put_all(work, to, text::CAP, count, b" \\\\ ");
@@ -52,8 +52,8 @@ fn put_branch(work: &mut [u8], to: usize, count: usize, later: bool, from: usize
 
 // Appends the branches of the `n` symbols at `from`.
 fn put_branches(work: &mut [u8], to: usize, count: usize, from: usize, n: usize) -> usize
-    requires { ⌜ Regions (now work) from n to 8192 count × (n ≤ 8192) ⌝ }
-    ensures { λ r. ⌜ Appended (now (work .entry)) (now (work .exit)) to 8192 count r (branches (part from n (now (work .entry)))) × (r ≤ count + 8 * (n + 1)) ⌝ }
+    requires { ⌜ Regions (now work) from n to mostSymbols count × (n ≤ mostSymbols) ⌝ }
+    ensures { λ r. ⌜ Appended (now (work .entry)) (now (work .exit)) to mostSymbols count r (branches (part from n (now (work .entry)))) × (r ≤ count + 8 * (n + 1)) ⌝ }
 {
     let end = from + n;
     let mut written = count;
@@ -74,8 +74,8 @@ fn put_branches(work: &mut [u8], to: usize, count: usize, from: usize, n: usize)
 
 // Appends the environment for the `n` symbols at `from`.
 fn put_cases(work: &mut [u8], to: usize, count: usize, from: usize, n: usize) -> usize
-    requires { ⌜ Regions (now work) from n to 8192 (count + 32) × (n ≤ 8192) ⌝ }
-    ensures { λ r. ⌜ Appended (now (work .entry)) (now (work .exit)) to 8192 count r (latexCases (part from n (now (work .entry)))) × (r ≤ count + 8 * (n + 1) + 32) ⌝ }
+    requires { ⌜ Regions (now work) from n to mostSymbols (count + 32) × (n ≤ mostSymbols) ⌝ }
+    ensures { λ r. ⌜ Appended (now (work .entry)) (now (work .exit)) to mostSymbols count r (latexCases (part from n (now (work .entry)))) × (r ≤ count + 8 * (n + 1) + 32) ⌝ }
 {
     let opened = text::put_all(work, to, text::CAP, count, b"\\begin{cases} ");
     let filled = put_branches(work, to, opened, from, n);
@@ -84,9 +84,9 @@ fn put_cases(work: &mut [u8], to: usize, count: usize, from: usize, n: usize) ->
 
 // Writes the `n` symbols at `from` to `to`, the call at `i`, which holds `k` symbols, rewritten.
 fn rewrite_cases(work: &mut [u8], from: usize, n: usize, to: usize, i: usize, k: usize) -> usize
-    requires { ⌜ Regions (now work) from n to 8192 0 × (n ≤ 8192) ⌝ }
+    requires { ⌜ Regions (now work) from n to mostSymbols 0 × (n ≤ mostSymbols) ⌝ }
     requires { ⌜ i + 6 + k + 1 ≤ n ⌝ }
-    ensures { λ r. ⌜ Appended (now (work .entry)) (now (work .exit)) to 8192 0 r (part from i (now (work .entry)) ++ latexCases (part (from + i + 6) k (now (work .entry))) ++ part (from + i + 6 + k + 1) (from + n - (from + i + 6 + k + 1)) (now (work .entry))) ⌝ }
+    ensures { λ r. ⌜ Appended (now (work .entry)) (now (work .exit)) to mostSymbols 0 r (part from i (now (work .entry)) ++ latexCases (part (from + i + 6) k (now (work .entry))) ++ part (from + i + 6 + k + 1) (from + n - (from + i + 6 + k + 1)) (now (work .entry))) ⌝ }
 {
     let inside = from + i + 6;
     let behind = inside + k + 1;

@@ -6,6 +6,7 @@ use mathlib.Core.Bool.{Bool, true, false}
 use mathlib.Core.List.{List, [], _∷_, _++_, reverse}
 use mathlib.Core.Option.{Option, none, some}
 use Prim.Native.Nat.{ℕ, zero, suc, _+_, _-_, _<_, _≤_}
+use Prim.Native.Char.{code}
 use native.Mathlib.Omega.{arith}
 use lib.Dec.{eqb}
 use lib.ListN.{length, getD, drop, drop-of-length-le}
@@ -68,23 +69,23 @@ abbrev pub isGrouping : Option (List ℕ) → Bool
 isGrouping none = true
 isGrouping (some p) = groupsBehind (head p)
 
-top-close : (p : List ℕ) (d : ℕ) → top (drop d (stackOf p)) ≡ isGrouping (close 125 123 d p)
+top-close : (p : List ℕ) (d : ℕ) → top (drop d (stackOf p)) ≡ isGrouping (close (code "}") (code "{") d p)
 unfolding stackOf close
 top-close [] d = ap top (drop-nil d)
-top-close (x ∷ p) d = go (eqb x 125) refl (eqb x 123) refl d (top-close p)
+top-close (x ∷ p) d = go (eqb x (code "}")) refl (eqb x (code "{")) refl d (top-close p)
   where
     later : (b : List Bool) (d : ℕ) → drop d (popped b) ≡ drop (suc d) b
     later [] d = drop-nil d
     later (x ∷ b) d = refl
 
-    go : (a : Bool) → eqb x 125 ≡ a → (b : Bool) → eqb x 123 ≡ b → (d : ℕ) → ((d : ℕ) → top (drop d (stackOf p)) ≡ isGrouping (close 125 123 d p))
-        → top (drop d (stackOf (x ∷ p))) ≡ isGrouping (close 125 123 d (x ∷ p))
-    go true e b f d further = let z = eqb-true x 125 e in rw z (ap top (later (stackOf p) d) ∙ further (suc d))
+    go : (a : Bool) → eqb x (code "}") ≡ a → (b : Bool) → eqb x (code "{") ≡ b → (d : ℕ) → ((d : ℕ) → top (drop d (stackOf p)) ≡ isGrouping (close (code "}") (code "{") d p))
+        → top (drop d (stackOf (x ∷ p))) ≡ isGrouping (close (code "}") (code "{") d (x ∷ p))
+    go true e b f d further = let z = eqb-true x (code "}") e in rw z (ap top (later (stackOf p) d) ∙ further (suc d))
     go false e true f zero further = rw (e, f, stackOf, close)
     go false e true f (suc d) further = rw (e, f, stackOf, close) (further d)
     go false e false f d further = rw (f, e, stackOf, close) (further d)
 
-module _ (s : List ℕ) {r : Found} (back : ClosesBack s r (close 125 123 0 (reverse s))) where
+module _ (s : List ℕ) {r : Found} (back : ClosesBack s r (close (code "}") (code "{") 0 (reverse s))) where
   pub top-at : {k : ℕ} → r ≡ At k → top (stackOf (reverse s)) ≡ groupsBehind (getD (0 ∷ s) k 0)
   top-at {k} e =
       let inside = back-within back e in
@@ -95,17 +96,17 @@ module _ (s : List ℕ) {r : Found} (back : ClosesBack s r (close 125 123 0 (rev
 
 -- ---- the symbol at a place
 module _ (s : List ℕ) (i : ℕ) (within : i ≤ length s) where
-  pub bare-opener : getD s i 0 ≡ 123 → bareAt s i ≡ groupsBehind (getD (0 ∷ s) i 0)
+  pub bare-opener : getD s i 0 ≡ code "{" → bareAt s i ≡ groupsBehind (getD (0 ∷ s) i 0)
   unfolding bareBehind
   bare-opener e = ap (bareBehind (before s i)) e ∙ ap groupsBehind (head-before s i within)
 
-  pub bare-closer : getD s i 0 ≡ 125 → bareAt s i ≡ top (stackOf (reverse (part 0 (i - 0) s)))
+  pub bare-closer : getD s i 0 ≡ code "}" → bareAt s i ≡ top (stackOf (reverse (part 0 (i - 0) s)))
   unfolding bareBehind
   bare-closer e = let z : i ≡ i - 0 = omega arith in ap (bareBehind (before s i)) e ∙ ap (λ k. top (stackOf (before s k))) z
 
-  pub bare-other : (getD s i 0 ≡ 123 → ⊥) → (getD s i 0 ≡ 125 → ⊥) → bareAt s i ≡ true
+  pub bare-other : (getD s i 0 ≡ code "{" → ⊥) → (getD s i 0 ≡ code "}" → ⊥) → bareAt s i ≡ true
   unfolding bareBehind
-  bare-other e f = rw (ne-eqb (getD s i 0) 123 e, ne-eqb (getD s i 0) 125 f, bareBehind)
+  bare-other e f = rw (ne-eqb (getD s i 0) (code "{") e, ne-eqb (getD s i 0) (code "}") f, bareBehind)
 
 -- ---- without an opening brace nothing is escaped
 escape-none : (before : ℕ) (s : List ℕ) → find (bytes "{") s ≡ none → escapeBraces [] before s ≡ s

@@ -7,7 +7,7 @@ ghost use Prim.Native.Nat.{_+_, _≤_, _<_};
 ghost use mathlib.Core.Path.{_≡_};
 ghost use mathlib.Core.List.{reverse};
 ghost use lib.ListN.{length};
-ghost use Rattle.spec.specs.Result.{stage};
+ghost use Rattle.spec.specs.Result.{stage, mostSymbols};
 ghost use Rattle.spec.specs.Finish.{groupsBehind, top, brace, escapeSetBraces};
 ghost use Rattle.text_symbols.specs.Parts.{part};
 ghost use Rattle.text.specs.Writer.{Room, Appended, Regions};
@@ -26,7 +26,7 @@ fn is_grouping(before: u8) -> bool
 
 // Whether the last brace that is open at the text's end groups. With none open, its closer stays bare.
 fn open_groups(s: &[u8]) -> bool
-    requires { ⌜ length (now s) ≤ 8192 ⌝ }
+    requires { ⌜ length (now s) ≤ mostSymbols ⌝ }
     ensures { λ r. ⌜ r ≡ top (stackOf (reverse (now (s .entry)))) ⌝ }
 {
     let Found::At(at) = text_closing::find_closer_back(s, b'}', b'{') else {
@@ -37,7 +37,7 @@ fn open_groups(s: &[u8]) -> bool
 
 // Whether the symbol at a place is written as it is.
 fn is_bare(s: &[u8], i: usize) -> bool
-    requires { ⌜ (i < length (now s)) × (length (now s) ≤ 8192) ⌝ }
+    requires { ⌜ (i < length (now s)) × (length (now s) ≤ mostSymbols) ⌝ }
     ensures { λ r. ⌜ r ≡ bareAt (now (s .entry)) i ⌝ }
 {
     let b = s[i];
@@ -52,8 +52,8 @@ fn is_bare(s: &[u8], i: usize) -> bool
 
 // Appends a symbol, behind a backslash where it is not bare.
 fn put_brace(work: &mut [u8], to: usize, count: usize, bare: bool, b: u8) -> usize
-    requires { ⌜ Room (now work) to 8192 count 2 ⌝ }
-    ensures { λ r. ⌜ Appended (now (work .entry)) (now (work .exit)) to 8192 count r (brace bare b) ⌝ }
+    requires { ⌜ Room (now work) to mostSymbols count 2 ⌝ }
+    ensures { λ r. ⌜ Appended (now (work .entry)) (now (work .exit)) to mostSymbols count r (brace bare b) ⌝ }
 {
     if bare {
         return text::put(work, to, text::CAP, count, b);
@@ -64,9 +64,9 @@ fn put_brace(work: &mut [u8], to: usize, count: usize, bare: bool, b: u8) -> usi
 
 // Writes the `n` symbols at `from` to `to`, set braces escaped. The result is the finished text's length.
 fn escape(work: &mut [u8], from: usize, n: usize, to: usize) -> usize
-    requires { ⌜ Regions (now work) from n to 8192 0 ⌝ }
-    requires { ⌜ n ≤ 8192 ⌝ }
-    ensures { λ r. ⌜ Appended (now (work .entry)) (now (work .exit)) to 8192 0 r (escapeSetBraces (part from n (now (work .entry)))) ⌝ }
+    requires { ⌜ Regions (now work) from n to mostSymbols 0 ⌝ }
+    requires { ⌜ n ≤ mostSymbols ⌝ }
+    ensures { λ r. ⌜ Appended (now (work .entry)) (now (work .exit)) to mostSymbols 0 r (escapeSetBraces (part from n (now (work .entry)))) ⌝ }
 {
     let end = from + n;
     let mut count = 0;

@@ -106,9 +106,9 @@ arguments-none b [] e = refl
 arguments-none b (x ∷ s) e = rw (e, arguments)
 
 -- ---- groups in braces, one after the other: a group is a closing search
-group-braces : (d : ℕ) (s : List ℕ) → braces (suc d) s ≡ braces 0 (orEnd (close 123 125 d s))
+group-braces : (d : ℕ) (s : List ℕ) → braces (suc d) s ≡ braces 0 (orEnd (close (code "{") (code "}") d s))
 unfolding braces
-group-braces = group-closing 123 125 braces (λ d. refl) (λ d x s. refl)
+group-braces = group-closing (code "{") (code "}") braces (λ d. refl) (λ d x s. refl)
 
 pub braces-group : (l : List ℕ) → is "{" (head l) ≡ true → braces 0 l ≡ braces 0 (orEnd (findMatchingBrace (past l)))
 unfolding braces close

@@ -4,15 +4,16 @@ use mathlib.Core.Bool.{Bool, true, false}
 use mathlib.Core.List.{List, [], _∷_}
 use mathlib.Core.Option.{none, some}
 use Prim.Native.Nat.{ℕ, suc}
+use Prim.Native.Char.{code}
 use Rattle.spec.specs.Symbols.{is, head}
 use Rattle.spec.specs.Closing.{sideOf, depthAfter, close, orEnd}
 use Rattle.spec.specs.Fractions.{inOperand, nameSymbol, nameBefore, wordBefore, withName, findFractionPartBefore}
 use Rattle.fraction_operands.specs.Groups.{group-closing}
 
 -- a group in a name is a closing search
-group-name : (d : ℕ) (s : List ℕ) → nameBefore (suc d) s ≡ nameBefore 0 (orEnd (close 125 123 d s))
+group-name : (d : ℕ) (s : List ℕ) → nameBefore (suc d) s ≡ nameBefore 0 (orEnd (close (code "}") (code "{") d s))
 unfolding nameBefore
-group-name = group-closing 125 123 nameBefore (λ d. refl) (λ d x s. refl)
+group-name = group-closing (code "}") (code "{") nameBefore (λ d. refl) (λ d x s. refl)
 
 module _ {x : ℕ} {p q : List ℕ} (here : p ≡ x ∷ q) where
   pub name-stop : nameSymbol x ≡ false → nameBefore 0 p ≡ p
@@ -27,7 +28,7 @@ module _ {x : ℕ} {p q : List ℕ} (here : p ≡ x ∷ q) where
       go true = refl
       go false = refl
 
-  pub name-group : nameSymbol x ≡ true → is "}" x ≡ true → nameBefore 0 p ≡ nameBefore 0 (orEnd (close 125 123 0 q))
+  pub name-group : nameSymbol x ≡ true → is "}" x ≡ true → nameBefore 0 p ≡ nameBefore 0 (orEnd (close (code "}") (code "{") 0 q))
   unfolding nameBefore
   name-group t u = ap (nameBefore 0) here ∙ rw (t, nameBefore) (ap (λ d. nameBefore d q) (rw u) ∙ group-name 0 q)
 
@@ -40,15 +41,15 @@ module _ {x : ℕ} {p q : List ℕ} (here : p ≡ x ∷ q) where
   word-before-stop y t = ap (wordBefore y) here ∙ rw (t, wordBefore, here)
 
   -- ---- the numerator, by its last symbol
-  pub before-brace : is "}" x ≡ true → findFractionPartBefore p ≡ withName (close 125 123 0 q)
+  pub before-brace : is "}" x ≡ true → findFractionPartBefore p ≡ withName (close (code "}") (code "{") 0 q)
   unfolding findFractionPartBefore
   before-brace t = ap findFractionPartBefore here ∙ rw (t, findFractionPartBefore)
 
-  pub before-paren : is "}" x ≡ false → is ")" x ≡ true → findFractionPartBefore p ≡ withName (close 41 40 0 q)
+  pub before-paren : is "}" x ≡ false → is ")" x ≡ true → findFractionPartBefore p ≡ withName (close (code ")") (code "(") 0 q)
   unfolding findFractionPartBefore
   before-paren t u = ap findFractionPartBefore here ∙ rw (t, u, findFractionPartBefore)
 
-  pub before-bracket : is "}" x ≡ false → is ")" x ≡ false → is "]" x ≡ true → findFractionPartBefore p ≡ withName (close 93 91 0 q)
+  pub before-bracket : is "}" x ≡ false → is ")" x ≡ false → is "]" x ≡ true → findFractionPartBefore p ≡ withName (close (code "]") (code "[") 0 q)
   unfolding findFractionPartBefore
   before-bracket t u v = ap findFractionPartBefore here ∙ rw (t, u, v, findFractionPartBefore)
 

@@ -10,6 +10,7 @@ use Prim.Native.Nat.{ℕ, zero, suc, _+_, _-_, _≤_, _<_}
 use native.Mathlib.Omega.{arith}
 use lib.ListN.{length, getD, take, drop, length-take, length-drop}
 use lib.Seq.{take-take, drop-drop}
+use Rattle.spec.specs.Result.{mostSymbols}
 use Rattle.spec.specs.Symbols.{head, until}
 use Rattle.spec.specs.Closing.{orEnd}
 use Rattle.spec.specs.Laws.Symbols.{head-drop}
@@ -22,7 +23,7 @@ use Rattle.text_closing.specs.Backward.{leftBefore, ClosesBack}
 
 -- a place in a text within number 5's limit
 pub record Place (s : List ℕ) (i : ℕ) : Type 0 where
-  pub short : length s ≤ 8192
+  pub short : length s ≤ mostSymbols
   pub within : i ≤ length s
 
 -- the place that was found, or where the search began

@@ -4,6 +4,7 @@ use mathlib.Core.Bool.{Bool, true, false, _&&_, and-false}
 use mathlib.Core.List.{List, [], _∷_, reverse, reverse-reverse}
 use mathlib.Core.Logic.{_⊎_, inl, inr, ⊎-elim}
 use Prim.Native.Nat.{ℕ, _+_, _-_, _≤_, _<_}
+use Prim.Native.Char.{code}
 use native.Mathlib.Omega.{arith}
 use native.Mathlib.Decide.{decLe}
 use borrow.Author.Tests.{eqb-true}
@@ -30,7 +31,7 @@ strip-short (x ∷ []) h = bare (x ∷ []) (go (is "(" x) refl)
   where
     go : (b : Bool) → is "(" x ≡ b → b && is ")" x ≡ false
     go false e = refl
-    go true e = rw (eqb-true x 40 e)
+    go true e = rw (eqb-true x (code "(") e)
 strip-short (x ∷ y ∷ t) h = absurd (omega arith)
 
 pub strip-open : (t : List ℕ) → is "(" (getD t 0 0) ≡ false → stripTrimmed t ≡ t
@@ -53,17 +54,17 @@ module _ (t : List ℕ) (long : 2 ≤ length t) where
       ∙ reverse-reverse (take (length u - 1) u) ∙ ap (λ k. take (k - 1) u) n
 
   module _ (opened : is "(" (getD t 0 0) ≡ true) (shut : is ")" (getD t (length t - 1) 0) ≡ true) where
-    stripped : {b : Bool} → level 40 41 0 (part 1 (length t - 1 - 1) t) ≡ b → stripTrimmed t ≡ elim b [ true ↦ part 1 (length t - 1 - 1) t | false ↦ t ]
+    stripped : {b : Bool} → level (code "(") (code ")") 0 (part 1 (length t - 1 - 1) t) ≡ b → stripTrimmed t ≡ elim b [ true ↦ part 1 (length t - 1 - 1) t | false ↦ t ]
     stripped {b} e =
         let x : is "(" (head t) ≡ true = ap (is "(") (head-drop t 0) ∙ opened in
         let y : is ")" (head (reverse t)) ≡ true = ap (λ l. is ")" (head l)) (last-symbol t (omega arith)) ∙ shut in
         let z : is "(" (head t) && is ")" (head (reverse t)) ≡ true = rw (x, y) in
         rw (z, stripTrimmed) (ap (innerOr t) inside-part ∙ rw (e, innerOr))
 
-    pub strip-inner : level 40 41 0 (part 1 (length t - 1 - 1) t) ≡ true → stripTrimmed t ≡ part 1 (length t - 1 - 1) t
+    pub strip-inner : level (code "(") (code ")") 0 (part 1 (length t - 1 - 1) t) ≡ true → stripTrimmed t ≡ part 1 (length t - 1 - 1) t
     strip-inner e = stripped e
 
-    pub strip-apart : level 40 41 0 (part 1 (length t - 1 - 1) t) ≡ false → stripTrimmed t ≡ t
+    pub strip-apart : level (code "(") (code ")") 0 (part 1 (length t - 1 - 1) t) ≡ false → stripTrimmed t ≡ t
     strip-apart e = stripped e
 
 -- ---- the operand lacks one symbol at each end of the trimmed text, or none
@@ -80,9 +81,9 @@ either t = long (decLe 2 (length t))
           where
             shut : (a : Bool) → is ")" (getD t (length t - 1) 0) ≡ a → (stripTrimmed t ≡ t) ⊎ ((2 ≤ length t) × (stripTrimmed t ≡ part 1 (length t - 1 - 1) t))
             shut false y = inl (strip-close t h y)
-            shut true y = by (level 40 41 0 (part 1 (length t - 1 - 1) t)) refl
+            shut true y = by (level (code "(") (code ")") 0 (part 1 (length t - 1 - 1) t)) refl
               where
-                by : (a : Bool) → level 40 41 0 (part 1 (length t - 1 - 1) t) ≡ a → (stripTrimmed t ≡ t) ⊎ ((2 ≤ length t) × (stripTrimmed t ≡ part 1 (length t - 1 - 1) t))
+                by : (a : Bool) → level (code "(") (code ")") 0 (part 1 (length t - 1 - 1) t) ≡ a → (stripTrimmed t ≡ t) ⊎ ((2 ≤ length t) × (stripTrimmed t ≡ part 1 (length t - 1 - 1) t))
                 by true z = inr (h, strip-inner t h x y z)
                 by false z = inl (strip-apart t h x y z)
 

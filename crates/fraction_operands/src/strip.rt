@@ -4,13 +4,14 @@ use text_symbols::Span;
 ghost use mathlib.Core.Path.{_≡_};
 ghost use Prim.Native.Nat.{_≤_};
 ghost use lib.ListN.{length};
+ghost use Rattle.spec.specs.Result.{mostSymbols};
 ghost use Rattle.spec.specs.Fractions.{stripTrimmed, stripOuterParens};
 ghost use Rattle.text_symbols.specs.Trim.{Narrowed};
 ghost use Rattle.fraction_operands.specs.Strip.{wholeSpan};
 
 // A text that begins and ends with no blank, without its outer parentheses.
 fn strip_trimmed(s: &[u8]) -> &[u8]
-    requires { ⌜ length (now s) ≤ 8192 ⌝ }
+    requires { ⌜ length (now s) ≤ mostSymbols ⌝ }
     ensures { λ r. ⌜ now r ≡ stripTrimmed (now (s .entry)) ⌝ }
 {
     let n = s.len();
@@ -32,7 +33,7 @@ fn strip_trimmed(s: &[u8]) -> &[u8]
 
 // The operand: a part of the text that it was given.
 pub fn strip_outer_parens(s: &[u8]) -> &[u8]
-    requires { ⌜ length (now s) ≤ 8192 ⌝ }
+    requires { ⌜ length (now s) ≤ mostSymbols ⌝ }
     ensures { λ r. ⌜ now r ≡ stripOuterParens (now (s .entry)) ⌝ }
 {
     let span = text_symbols::trim(s, all(s), Class::Blank);
@@ -43,7 +44,7 @@ pub fn strip_outer_parens(s: &[u8]) -> &[u8]
 
 // Where the operand stands in the text. Its length says so: of the trimmed text it lacks one symbol at each end, or none.
 pub fn operand_span(s: &[u8]) -> Span
-    requires { ⌜ length (now s) ≤ 8192 ⌝ }
+    requires { ⌜ length (now s) ≤ mostSymbols ⌝ }
     ensures { λ r. ⌜ Narrowed (now (s .entry)) (wholeSpan (now (s .entry))) r (stripOuterParens (now (s .entry))) ⌝ }
 {
     let n = strip_outer_parens(s).len();

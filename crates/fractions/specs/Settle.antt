@@ -12,6 +12,7 @@ use native.Mathlib.Omega.{arith}
 use lib.Dec.{ltb}
 use borrow.Author.Tests.{lt-ltb, le-ltb}
 use lib.ListN.{length, drop}
+use Rattle.text_search.specs.Half.{halfWork}
 use Rattle.spec.specs.Symbols.{bytes, same, find}
 use Rattle.spec.specs.Result.{Result, passed, refused, mostSymbols}
 use Rattle.spec.specs.Fractions.{fractionsFrom, convertRegularFractions, settle, convertFractions}
@@ -98,9 +99,9 @@ pub record Stepped (w₀ w : List ℕ) (from n : ℕ) (r : Round) : Type 0 where
   pub out : List ℕ
   pub decides : nextAs r out ≡ afterRound (part from n w₀)
   pub counted : grownTo r ≡ length out
-  pub wrote : Wrote w₀ w (8192 - from) 8192 out
+  pub wrote : Wrote w₀ w (mostSymbols - from) mostSymbols out
 
-module _ {w₀ w : List ℕ} {from n : ℕ} {r : Outcome} (ready : Ready w₀ (Text from n)) (d : Rounded (part from n w₀) w₀ w (8192 - from) r) where
+module _ {w₀ w : List ℕ} {from n : ℕ} {r : Outcome} (ready : Ready w₀ (Text from n)) (d : Rounded (part from n w₀) w₀ w (mostSymbols - from) r) where
   pub step-barred : r ≡ Outcome.Barred → Stepped w₀ w from n Round.Barred
   unfolding afterRound
   step-barred e = record { out = []; decides = ap (nextOf (part from n w₀)) (sym (ap (λ x. outcomeText x (d .out)) e) ∙ d .decides); counted = refl; wrote = wrote-less 0 (d .wrote) }
@@ -122,14 +123,14 @@ module _ {w₀ w : List ℕ} {from n : ℕ} {r : Outcome} (ready : Ready w₀ (T
         differs (same-other-length (d .out) (part from n w₀) (λ h. other (omega arith)))
 
     -- the code compares the two regions
-    module _ (even : count ≡ n) {b : Bool} (compared : b ≡ same (part (8192 - from) (8192 - from + n - (8192 - from)) w) (part from (from + n - from) w)) where
+    module _ (even : count ≡ n) {b : Bool} (compared : b ≡ same (part (mostSymbols - from) (mostSymbols - from + n - (mostSymbols - from)) w) (part from (from + n - from) w)) where
       same-out : same (d .out) (part from n w₀) ≡ b
       same-out =
           let regions = placed-regions ready refl in
           let c = length-out in let h = placed-text ready refl .1 in
           let f : n ≡ length (d .out) = omega arith in
-          let fresh : part (8192 - from) (8192 - from + n - (8192 - from)) w ≡ d .out =
-          whole-part (8192 - from) n w ∙ ap (λ j. part (8192 - from) j w) f ∙ wrote-text (d .wrote) (regions .region) (omega arith)
+          let fresh : part (mostSymbols - from) (mostSymbols - from + n - (mostSymbols - from)) w ≡ d .out =
+          whole-part (mostSymbols - from) n w ∙ ap (λ j. part (mostSymbols - from) j w) f ∙ wrote-text (d .wrote) (regions .region) (omega arith)
           in
           sym (compared ∙ ap₂ same fresh (whole-part from n w ∙ wrote-apart (d .wrote) from n (regions .apart)))
 
@@ -147,8 +148,8 @@ module _ {w₀ w : List ℕ} {from n : ℕ} {r : Round} (ready : Ready w₀ (Tex
   source-kept : part from n w ≡ part from n w₀
   source-kept = wrote-apart (d .wrote) from n (placed-regions ready refl .apart)
 
-  beyond-kept : drop 16384 w ≡ drop 16384 w₀
-  beyond-kept = wrote-beyond {k = 16384} (d .wrote) (⊎-elim (λ z. omega arith) (λ z. omega arith) (placed-text ready refl .0))
+  beyond-kept : drop halfWork w ≡ drop halfWork w₀
+  beyond-kept = wrote-beyond {k = halfWork} (d .wrote) (⊎-elim (λ z. omega arith) (λ z. omega arith) (placed-text ready refl .0))
 
   -- the round after the last that may change the text
   last-answer : {x : Progress} → shown x w ≡ lastOf (part from n w₀) (afterRound (part from n w₀)) → Placed x → Staged w₀ w (Text from n) x (settle 0)
@@ -168,7 +169,7 @@ pub record Going (w₀ w : List ℕ) (from n at len k : ℕ) : Type 0 where
   pub same-as-whole : settle 64 (part from n w₀) ≡ settle (64 - k) (part at len w)
   pub ready : Ready w (Text at len)
   pub long : length w ≡ length w₀
-  pub beyond : drop 16384 w ≡ drop 16384 w₀
+  pub beyond : drop halfWork w ≡ drop halfWork w₀
 
 pub going-none : {w : List ℕ} {from n : ℕ} → Ready w (Text from n) → Going w w from n from n 0
 going-none ready = record { same-as-whole = refl; ready = ready; long = refl; beyond = refl }
@@ -207,15 +208,15 @@ module _ {w₀ w w′ : List ℕ} {from n at len k : ℕ} {r : Round} (g : Going
     count-out : count ≡ length (d .out)
     count-out = sym (ap grownTo e) ∙ d .counted
 
-    pub going-overgrown : 8192 < count → Staged w₀ w′ (Text from n) (Refused Overgrown) convertFractions
-    going-overgrown h = let c = count-out in let l = lt-ltb 8192 (length (d .out)) (omega arith) in answered-by (sym (rounds-more e ∙ rw l)) tt
+    pub going-overgrown : mostSymbols < count → Staged w₀ w′ (Text from n) (Refused Overgrown) convertFractions
+    going-overgrown h = let c = count-out in let l = lt-ltb mostSymbols (length (d .out)) (omega arith) in answered-by (sym (rounds-more e ∙ rw l)) tt
 
-    pub going-on : count ≤ 8192 → Going w₀ w′ from n (8192 - at) count (k + 1)
+    pub going-on : count ≤ mostSymbols → Going w₀ w′ from n (mostSymbols - at) count (k + 1)
     going-on h =
         let c = count-out in
-        let l = le-ltb 8192 (length (d .out)) (omega arith) in
+        let l = le-ltb mostSymbols (length (d .out)) (omega arith) in
         let long = d .wrote .long in let wide = g .ready .long in
-        let t : part (8192 - at) count w′ ≡ d .out = ap (λ j. part (8192 - at) j w′) c ∙ wrote-text (d .wrote) (placed-regions (g .ready) refl .region) (omega arith) in
+        let t : part (mostSymbols - at) count w′ ≡ d .out = ap (λ j. part (mostSymbols - at) j w′) c ∙ wrote-text (d .wrote) (placed-regions (g .ready) refl .region) (omega arith) in
         record {
           same-as-whole = rounds-more e ∙ rw l (ap (settle (64 - (k + 1))) (sym t));
           ready = record { long = omega arith; placed = (⊎-elim (λ z. inr (omega arith)) (λ z. inl (omega arith)) (placed-text (g .ready) refl .0), h) };

@@ -11,6 +11,7 @@ use native.Mathlib.Nat.{add-zero}
 use native.Mathlib.Omega.{arith}
 use borrow.Author.Tests.{eq-eqb, ne-eqb}
 use lib.ListN.{length, getD, take, drop}
+use Rattle.spec.specs.Result.{mostSymbols}
 use Rattle.spec.specs.Fractions.{Step, slash, fractionsFrom, convertRegularFractions}
 use Rattle.spec.specs.Laws.Symbols.{drop-step, drop-reverse}
 use Rattle.text_symbols.specs.Parts.{part, whole-part}
@@ -37,7 +38,7 @@ pub record Rounded (s w₀ w : List ℕ) (to : ℕ) (r : Outcome) : Type 0 where
   pub out : List ℕ
   pub decides : outcomeText r out ≡ convertRegularFractions s
   pub counted : outcomeLength r ≡ length out
-  pub wrote : Wrote w₀ w to 8192 out
+  pub wrote : Wrote w₀ w to mostSymbols out
 
 -- ---- the round from place i on, with `out` written so far
 abbrev pub roundFrom : List ℕ → ℕ → List ℕ → Option (List ℕ)
@@ -58,7 +59,7 @@ module _ (s : List ℕ) (i : ℕ) (inside : i < length s) where
   pub round-copied : (getD s i 0 ≡ code "/" → ⊥) → (out : List ℕ) → roundFrom s i out ≡ roundFrom s (i + 1) (out ++ getD s i 0 ∷ [])
   unfolding fractionsFrom
   round-copied h out =
-      let e = ne-eqb (getD s i 0) 47 h in
+      let e = ne-eqb (getD s i 0) (code "/") h in
       ap (fractionsFrom 0 (before s i) (reverse out)) (drop-step s i inside) ∙ rw (e, fractionsFrom)
       (ap₂ (λ p o. fractionsFrom 0 p o (drop (i + 1) s)) (sym (before-next s i inside)) (sym (reverse-append out (getD s i 0 ∷ []))))
 
@@ -67,7 +68,7 @@ module _ (s : List ℕ) (i : ℕ) (inside : i < length s) where
         → fractionsFrom 0 (before s i) o (drop i s) ≡ elim t [ none ↦ none | some t ↦ fractionsFrom (t .skip) (before s (i + 1)) (t .written) (drop (i + 1) s) ]
     unfolding fractionsFrom
     turned o e =
-        let b = eq-eqb (getD s i 0) 47 is-slash in
+        let b = eq-eqb (getD s i 0) (code "/") is-slash in
         ap (fractionsFrom 0 (before s i) o) (drop-step s i inside) ∙ rw (b, fractionsFrom)
         (ap₂ (λ p t. elim t [ none ↦ none | some t ↦ fractionsFrom (t .skip) p (t .written) (drop (i + 1) s) ]) (sym (before-next s i inside)) e)
 
@@ -98,11 +99,11 @@ module _ (s : List ℕ) (i : ℕ) (inside : i < length s) where
 
 -- ---- the loop
 pub record Converting (s w₀ w : List ℕ) (to count i : ℕ) : Type 0 where
-  pub writing : Writing w₀ w to 8192 count (roundFrom s i) (convertRegularFractions s)
+  pub writing : Writing w₀ w to mostSymbols count (roundFrom s i) (convertRegularFractions s)
 
 pub converting-none : (s w : List ℕ) (to : ℕ) → Converting s w w to 0 0
 unfolding convertRegularFractions
-converting-none s w to = record { writing = writing-none w to 8192 (roundFrom s 0) }
+converting-none s w to = record { writing = writing-none w to mostSymbols (roundFrom s 0) }
 
 module _ {s w₀ w : List ℕ} {to count i : ℕ} (t : Converting s w₀ w to count i) where
   pub converting-all : length s ≤ i → Rounded s w₀ w to (Outcome.Done count)
@@ -119,15 +120,15 @@ module _ {s w₀ w : List ℕ} {to count i : ℕ} (t : Converting s w₀ w to co
   pub converting-refused : ((out : List ℕ) → roundFrom s i out ≡ none) → Rounded s w₀ w to Outcome.Barred
   converting-refused e = record { out = []; decides = sym (e (t .writing .out)) ∙ t .writing .same-as-whole; counted = refl; wrote = wrote-less 0 (t .writing .wrote) }
 
-  module _ {w′ : List ℕ} {count′ : ℕ} (fits : to + 8192 ≤ length w₀) where
+  module _ {w′ : List ℕ} {count′ : ℕ} (fits : to + mostSymbols ≤ length w₀) where
     pub converting-kept :
-        {x : ℕ} → Appended w w′ to 8192 count count′ (x ∷ [])
+        {x : ℕ} → Appended w w′ to mostSymbols count count′ (x ∷ [])
         → ((out : List ℕ) → roundFrom s i out ≡ roundFrom s (i + 1) (out ++ x ∷ []))
         → Converting s w₀ w′ to count′ (i + 1)
     converting-kept a e = record { writing = writing-more (t .writing) (roundFrom s (i + 1)) fits a e }
 
     pub converting-fraction :
-        (f : Operands) → Appended w w′ to 8192 (count - (i - f .num .start)) count′ (fraction f s)
+        (f : Operands) → Appended w w′ to mostSymbols (count - (i - f .num .start)) count′ (fraction f s)
         → ((out : List ℕ) → roundFrom s i out ≡ roundFrom s (f .den .end) (take (length out - (i - f .num .start)) out ++ fraction f s))
         → Converting s w₀ w′ to count′ (f .den .end)
     converting-fraction f a e =
@@ -135,7 +136,7 @@ module _ {s w₀ w : List ℕ} {to count i : ℕ} (t : Converting s w₀ w to co
         record { writing = writing-more less (roundFrom s (f .den .end)) fits a (λ out. refl) }
 
 -- ---- the text is read as it was
-module _ {w₀ w : List ℕ} {from n to count count₀ i : ℕ} (t : Converting (part from n w₀) w₀ w to count i) (regions : Regions w₀ from n to 8192 count₀) where
+module _ {w₀ w : List ℕ} {from n to count count₀ i : ℕ} (t : Converting (part from n w₀) w₀ w to count i) (regions : Regions w₀ from n to mostSymbols count₀) where
   pub source-same : part from n w ≡ part from n w₀
   source-same = wrote-apart (t .writing .wrote) from n (regions .apart)
 
@@ -148,5 +149,5 @@ module _ {w₀ w : List ℕ} {from n to count count₀ i : ℕ} (t : Converting 
   pub slashed-here : {r : Slash} → Slashed (part from (from + n - from) w) i r → Slashed (part from n w₀) i r
   slashed-here {r} d = subst (λ s. Slashed s i r) slice-same d
 
-  pub fraction-here : {w′ : List ℕ} {left r : ℕ} (f : Operands) → Appended w w′ to 8192 left r (fraction f (part from n w)) → Appended w w′ to 8192 left r (fraction f (part from n w₀))
-  fraction-here {w′} {left} {r} f a = subst (λ s. Appended w w′ to 8192 left r (fraction f s)) source-same a
+  pub fraction-here : {w′ : List ℕ} {left r : ℕ} (f : Operands) → Appended w w′ to mostSymbols left r (fraction f (part from n w)) → Appended w w′ to mostSymbols left r (fraction f (part from n w₀))
+  fraction-here {w′} {left} {r} f a = subst (λ s. Appended w w′ to mostSymbols left r (fraction f s)) source-same a

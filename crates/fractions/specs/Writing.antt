@@ -5,6 +5,7 @@ use mathlib.Core.List.{List, _++_}
 use Prim.Native.Nat.{ℕ, _+_, _-_, _≤_}
 use native.Mathlib.Omega.{arith}
 use lib.ListN.{length, drop, length-take, length-append}
+use Rattle.spec.specs.Result.{mostSymbols}
 use Rattle.spec.specs.Symbols.{bytes}
 use Rattle.spec.specs.Fractions.{frac, stripOuterParens}
 use Rattle.text_symbols.specs.Parts.{part, sub-part}
@@ -18,8 +19,8 @@ use Rattle.fractions.specs.Slash.{Ordered, fraction}
 pub record Source (w : List ℕ) (p : Span) (to : ℕ) : Type 0 where
   pub order : p .start ≤ p .end
   pub inside : p .end ≤ length w
-  pub short : p .end - p .start ≤ 8192
-  pub apart : Apart (p .start) (p .end - p .start) to 8192
+  pub short : p .end - p .start ≤ mostSymbols
+  pub apart : Apart (p .start) (p .end - p .start) to mostSymbols
 
 -- ---- an operand
 -- where it stands in the buffer
@@ -32,10 +33,10 @@ module _ (w : List ℕ) (p : Span) {r : Span} (operand : Narrowed (spanned p w) 
       let f = operand-fits in let o = operand .order in
       sub-part (p .start) (p .end - p .start) (r .start) (r .end - r .start) w (omega arith) ∙ operand .text
 
-  pub operand-apart : {to : ℕ} → Source w p to → Apart (p .start + r .start) (r .end - r .start) to 8192
+  pub operand-apart : {to : ℕ} → Source w p to → Apart (p .start + r .start) (r .end - r .start) to mostSymbols
   operand-apart {to} source =
       let f = operand-fits in let o = operand .order in
-      apart-part (p .start) (p .end - p .start) to 8192 (r .start) (r .end - r .start) (source .apart) (omega arith)
+      apart-part (p .start) (p .end - p .start) to mostSymbols (r .start) (r .end - r .start) (source .apart) (omega arith)
 
 operand-small : (w : List ℕ) (p : Span) → length (stripOuterParens (spanned p w)) ≤ p .end - p .start
 operand-small w p = let a = strip-length (spanned p w) in let b = length-take (p .end - p .start) (drop (p .start) w) in omega arith
@@ -50,25 +51,25 @@ room-operand v p k a r =
     record { region = omega arith; small = omega arith }
 
 -- a span is still a source after an append
-pub source-kept : {w w′ : List ℕ} {p : Span} {to count count′ : ℕ} {bs : List ℕ} → Appended w w′ to 8192 count count′ bs → Source w p to → Source w′ p to
+pub source-kept : {w w′ : List ℕ} {p : Span} {to count count′ : ℕ} {bs : List ℕ} → Appended w w′ to mostSymbols count count′ bs → Source w p to → Source w′ p to
 source-kept a s = let l = appended-long a in let i = s .inside in record { order = s .order; inside = omega arith; short = s .short; apart = s .apart }
 
-source-text : {w w′ : List ℕ} {p : Span} {to count count′ : ℕ} {bs : List ℕ} → Appended w w′ to 8192 count count′ bs → Source w p to → spanned p w′ ≡ spanned p w
+source-text : {w w′ : List ℕ} {p : Span} {to count count′ : ℕ} {bs : List ℕ} → Appended w w′ to mostSymbols count count′ bs → Source w p to → spanned p w′ ≡ spanned p w
 source-text {p = p} a s = appended-part a (p .start) (p .end - p .start) (s .apart)
 
 -- ---- a fraction
 module _
     {w w₁ w₂ w₃ w₄ w₅ : List ℕ} {to c c₁ c₂ c₃ c₄ c₅ : ℕ} (f : Operands) (num : Source w (f .num) to) (den : Source w (f .den) to)
-    (a₁ : Appended w w₁ to 8192 c c₁ (bytes "\\frac{")) (a₂ : Appended w₁ w₂ to 8192 c₁ c₂ (stripOuterParens (spanned (f .num) w₁)))
-    (a₃ : Appended w₂ w₃ to 8192 c₂ c₃ (bytes "}{")) (a₄ : Appended w₃ w₄ to 8192 c₃ c₄ (stripOuterParens (spanned (f .den) w₃))) (a₅ : Appended w₄ w₅ to 8192 c₄ c₅ (bytes "}"))
+    (a₁ : Appended w w₁ to mostSymbols c c₁ (bytes "\\frac{")) (a₂ : Appended w₁ w₂ to mostSymbols c₁ c₂ (stripOuterParens (spanned (f .num) w₁)))
+    (a₃ : Appended w₂ w₃ to mostSymbols c₂ c₃ (bytes "}{")) (a₄ : Appended w₃ w₄ to mostSymbols c₃ c₄ (stripOuterParens (spanned (f .den) w₃))) (a₅ : Appended w₄ w₅ to mostSymbols c₄ c₅ (bytes "}"))
   where
-    pub appended-fraction : Appended w w₅ to 8192 c c₅ (fraction f w)
+    pub appended-fraction : Appended w w₅ to mostSymbols c c₅ (fraction f w)
     appended-fraction =
-        let b₂ = subst (λ l. Appended w₁ w₂ to 8192 c₁ c₂ (stripOuterParens l)) (source-text a₁ num) a₂ in
+        let b₂ = subst (λ l. Appended w₁ w₂ to mostSymbols c₁ c₂ (stripOuterParens l)) (source-text a₁ num) a₂ in
         let d₁ = source-kept a₁ den in
         let d₂ = source-kept a₂ d₁ in
         let d = source-text a₃ d₂ ∙ source-text a₂ d₁ ∙ source-text a₁ den in
-        let b₄ = subst (λ l. Appended w₃ w₄ to 8192 c₃ c₄ (stripOuterParens l)) d a₄ in
+        let b₄ = subst (λ l. Appended w₃ w₄ to mostSymbols c₃ c₄ (stripOuterParens l)) d a₄ in
         appended-more a₁ (appended-more b₂ (appended-more a₃ (appended-more b₄ a₅)))
 
 frac-length : (n d : List ℕ) → length (frac n d) ≡ 6 + (length n + (2 + (length d + 1)))
@@ -78,7 +79,7 @@ frac-length n d =
     omega arith
 
 -- ---- the operands of a slash, spans of the text at `from`
-module _ {w : List ℕ} {from n to count : ℕ} (regions : Regions w from n to 8192 count) (short : n ≤ 8192) {i : ℕ} {f : Operands} (ord : Ordered n i f) where
+module _ {w : List ℕ} {from n to count : ℕ} (regions : Regions w from n to mostSymbols count) (short : n ≤ mostSymbols) {i : ℕ} {f : Operands} (ord : Ordered n i f) where
   shifted : (p : Span) → p .start ≤ p .end → p .end ≤ n → Source w (record { start = from + p .start; end = from + p .end }) to
   shifted p o h =
       let s = regions .source in
@@ -87,7 +88,7 @@ module _ {w : List ℕ} {from n to count : ℕ} (regions : Regions w from n to 8
         order = omega arith;
         inside = omega arith;
         short = omega arith;
-        apart = subst (λ k. Apart (from + p .start) k to 8192) (sym e) (apart-part from n to 8192 (p .start) (p .end - p .start) (regions .apart) (omega arith));
+        apart = subst (λ k. Apart (from + p .start) k to mostSymbols) (sym e) (apart-part from n to mostSymbols (p .start) (p .end - p .start) (regions .apart) (omega arith));
       }
 
   shifted-text : (p : Span) → p .start ≤ p .end → p .end ≤ n → spanned (record { start = from + p .start; end = from + p .end }) w ≡ spanned p (part from n w)

@@ -6,14 +6,15 @@ use super::slashes::slash_at;
 use super::writing::put_converted;
 use text::CAP;
 ghost use Prim.Native.Nat.{_≤_};
+ghost use Rattle.spec.specs.Result.{mostSymbols};
 ghost use Rattle.text_symbols.specs.Parts.{part};
 ghost use Rattle.text.specs.Writer.{Regions};
 ghost use Rattle.fractions.specs.Turn.{Rounded};
 
 // Writes the `n` symbols at `from` to `to`, with their fractions.
 pub fn convert_regular_fractions(work: &mut [u8], from: usize, n: usize, to: usize) -> Outcome
-    requires { ⌜ Regions (now work) from n to 8192 0 ⌝ }
-    requires { ⌜ n ≤ 8192 ⌝ }
+    requires { ⌜ Regions (now work) from n to mostSymbols 0 ⌝ }
+    requires { ⌜ n ≤ mostSymbols ⌝ }
     ensures { λ r. ⌜ Rounded (part from n (now (work .entry))) (now (work .entry)) (now (work .exit)) to r ⌝ }
 {
     let end = from + n;

@@ -3,6 +3,7 @@ use super::Operands;
 use text::CAP;
 use text_symbols::Span;
 ghost use Prim.Native.Nat.{_+_, _-_, _≤_};
+ghost use Rattle.spec.specs.Result.{mostSymbols};
 ghost use Rattle.spec.specs.Fractions.{stripOuterParens};
 ghost use Rattle.text_symbols.specs.Parts.{part};
 ghost use Rattle.text_symbols.specs.Trim.{spanned};
@@ -12,9 +13,9 @@ ghost use Rattle.fractions.specs.Writing.{Source};
 
 // Appends the operand that lies in the span.
 fn put_operand(work: &mut [u8], span: Span, to: usize, count: usize) -> usize
-    requires { ⌜ Room (now work) to 8192 count (span .end - span .start) ⌝ }
+    requires { ⌜ Room (now work) to mostSymbols count (span .end - span .start) ⌝ }
     requires { ⌜ Source (now work) span to ⌝ }
-    ensures { λ r. ⌜ Appended (now (work .entry)) (now (work .exit)) to 8192 count r (stripOuterParens (spanned span (now (work .entry)))) ⌝ }
+    ensures { λ r. ⌜ Appended (now (work .entry)) (now (work .exit)) to mostSymbols count r (stripOuterParens (spanned span (now (work .entry)))) ⌝ }
 {
     let from = span.start;
     let end = span.end;
@@ -31,10 +32,10 @@ fn put_operand(work: &mut [u8], span: Span, to: usize, count: usize) -> usize
 
 // Appends the fraction of two operands.
 fn put_fraction(work: &mut [u8], f: Operands, to: usize, count: usize) -> usize
-    requires { ⌜ Room (now work) to 8192 count (6 + (f .num .end - f .num .start + (2 + (f .den .end - f .den .start + 1)))) ⌝ }
+    requires { ⌜ Room (now work) to mostSymbols count (6 + (f .num .end - f .num .start + (2 + (f .den .end - f .den .start + 1)))) ⌝ }
     requires { ⌜ Source (now work) (f .num) to ⌝ }
     requires { ⌜ Source (now work) (f .den) to ⌝ }
-    ensures { λ r. ⌜ Appended (now (work .entry)) (now (work .exit)) to 8192 count r (fraction f (now (work .entry))) ⌝ }
+    ensures { λ r. ⌜ Appended (now (work .entry)) (now (work .exit)) to mostSymbols count r (fraction f (now (work .entry))) ⌝ }
 {
     let num = f.num;
     let den = f.den;
@@ -56,10 +57,10 @@ pub fn put_converted(
     i: usize,
     f: Operands,
 ) -> usize
-    requires { ⌜ Regions (now work) from n to 8192 count ⌝ }
-    requires { ⌜ n ≤ 8192 ⌝ }
+    requires { ⌜ Regions (now work) from n to mostSymbols count ⌝ }
+    requires { ⌜ n ≤ mostSymbols ⌝ }
     requires { ⌜ Ordered n i f ⌝ }
-    ensures { λ r. ⌜ Appended (now (work .entry)) (now (work .exit)) to 8192 (count - (i - f .num .start)) r (fraction f (part from n (now (work .entry)))) ⌝ }
+    ensures { λ r. ⌜ Appended (now (work .entry)) (now (work .exit)) to mostSymbols (count - (i - f .num .start)) r (fraction f (part from n (now (work .entry)))) ⌝ }
 {
     let left = text::saturating_sub(count, i - f.num.start);
     let num = Span {

@@ -13,6 +13,9 @@ use native.Mathlib.Omega.{arith}
 use lib.ListN.{length, getD, drop, length-take, drop-of-length-le}
 use lib.Seq.{drop-cons}
 use borrow.Author.Tests.{eq-eqb, ne-eqb}
+use Rattle.spec.specs.Result.{mostSymbols}
+use Rattle.spec.specs.Pipeline.{leastWork}
+use Rattle.text_search.specs.Half.{halfWork}
 use Rattle.spec.specs.Held.{filled}
 use Rattle.text_symbols.specs.Parts.{part, length-part, getD-part}
 use Rattle.text.specs.Writer.{Room, Appended, Apart, appended-none, appended-more, appended-long, appended-part, puts-outside}
@@ -43,12 +46,12 @@ pub record Filed (w : List ℕ) (k : ℕ) : Type 0 where
   pub inside : startAt w k + longAt w k ≤ blocksRoom
 
 pub record Back (w : List ℕ) (from n to mark first : ℕ) : Type 0 where
-  pub long : 32768 ≤ length w
+  pub long : leastWork ≤ length w
   pub source : from + n ≤ blocksAt
-  pub region : to + 8192 ≤ blocksAt
-  pub apart : Apart from n to 8192
-  pub short : n ≤ 8192
-  pub few : first ≤ 8192
+  pub region : to + mostSymbols ≤ blocksAt
+  pub apart : Apart from n to mostSymbols
+  pub short : n ≤ mostSymbols
+  pub few : first ≤ mostSymbols
   pub filed : (k : ℕ) → k < first + count mark (part from n w) → Filed w k
 
 -- ---- blocks by list
@@ -69,10 +72,10 @@ stored-filled w mark first s =
     filled-returned mark (storedAt w) s (storedFrom w first (count mark s)) first (omega arith) (λ i h. stored-block w (count mark s) first i (omega arith))
 
 -- ---- what is read of a block after an append to a text region
-module _ {w w′ : List ℕ} {to n n′ : ℕ} {bs : List ℕ} (region : to + 8192 ≤ blocksAt) (a : Appended w w′ to 8192 n n′ bs) where
+module _ {w w′ : List ℕ} {to n n′ : ℕ} {bs : List ℕ} (region : to + mostSymbols ≤ blocksAt) (a : Appended w w′ to mostSymbols n n′ bs) where
   -- a byte behind both text regions
   byte-kept : (at : ℕ) → blocksAt ≤ at → getD w′ at 0 ≡ getD w at 0
-  byte-kept at h = ap (λ v. getD v at 0) (a .work) ∙ puts-outside bs w to 8192 n at (inr (omega arith))
+  byte-kept at h = ap (λ v. getD v at 0) (a .work) ∙ puts-outside bs w to mostSymbols n at (inr (omega arith))
 
   number-kept : (at : ℕ) → blocksAt ≤ at → numberAt w′ at ≡ numberAt w at
   number-kept at h = ap₂ (λ x y. x * 256 + y) (byte-kept at h) (byte-kept (at + 1) (omega arith))
@@ -92,15 +95,15 @@ module _ {w w′ : List ℕ} {to n n′ : ℕ} {bs : List ℕ} (region : to + 81
 -- ---- the loop
 pub record Returning (mark first : ℕ) (w₀ w : List ℕ) (from n to len k i : ℕ) : Type 0 where
   pub out : List ℕ
-  pub appended : Appended w₀ w to 8192 0 len out
+  pub appended : Appended w₀ w to mostSymbols 0 len out
   pub same-as-whole : out ++ returned mark (storedAt w₀) k (drop i (part from n w₀)) ≡ returned mark (storedAt w₀) first (part from n w₀)
   pub left : k + count mark (drop i (part from n w₀)) ≡ first + count mark (part from n w₀)
-  pub len-bounded : len ≤ 16384 * i
+  pub len-bounded : len ≤ halfWork * i
   pub k-bounded : k ≤ first + i
 
 pub returning-none : (mark first : ℕ) (w : List ℕ) (from n to : ℕ) → Returning mark first w w from n to 0 first 0
 returning-none mark first w from n to =
-    record { out = []; appended = appended-none w to 8192 0; same-as-whole = refl; left = refl; len-bounded = omega arith; k-bounded = omega arith }
+    record { out = []; appended = appended-none w to mostSymbols 0; same-as-whole = refl; left = refl; len-bounded = omega arith; k-bounded = omega arith }
 
 module _
     {mark first : ℕ} {w₀ w : List ℕ} {from n to len k i : ℕ}
@@ -112,7 +115,7 @@ module _
     source-long : length (part from n w₀) ≡ n
     source-long = let l = back .long in let s = back .source in length-part from n w₀ (omega arith)
 
-    pub returning-all : n ≤ i → Appended w₀ w to 8192 0 len (filled mark (storedFrom w₀ first (count mark (part from n w₀))) (part from n w₀))
+    pub returning-all : n ≤ i → Appended w₀ w to mostSymbols 0 len (filled mark (storedFrom w₀ first (count mark (part from n w₀))) (part from n w₀))
     unfolding returned
     returning-all l =
         let e = source-long in
@@ -121,7 +124,7 @@ module _
         let t = sym (append-nil (r .out)) ∙ ap (λ s. r .out ++ returned mark (storedAt w₀) k s) (sym d) ∙ r .same-as-whole in
         rw (stored-filled w₀ mark first (part from n w₀), ← t) (r .appended)
 
-    pub back-room : (m : ℕ) → m ≤ 16384 → i < n → Room w to 8192 len m
+    pub back-room : (m : ℕ) → m ≤ halfWork → i < n → Room w to mostSymbols len m
     back-room m few l = let a = returning-long in let b = back .long in let g = back .region in let x = r .len-bounded in let s = back .short in record { region = omega arith; small = omega arith }
 
     module _ (more : i < n) where
@@ -135,10 +138,10 @@ module _
           byte : getD w (from + i) 0 ≡ getD w₀ (from + i) 0
           byte =
               ap (λ v. getD v (from + i) 0) (r .appended .work)
-              ∙ puts-outside (r .out) w₀ to 8192 0 (from + i) (⊎-elim (λ l. inl (omega arith)) (λ l. inr (omega arith)) (back .apart))
+              ∙ puts-outside (r .out) w₀ to mostSymbols 0 (from + i) (⊎-elim (λ l. inl (omega arith)) (λ l. inr (omega arith)) (back .apart))
 
       pub returning-other :
-          {w′ : List ℕ} {len′ : ℕ} → (getD w (from + i) 0 ≡ mark → ⊥) → Appended w w′ to 8192 len len′ (getD w (from + i) 0 ∷ [])
+          {w′ : List ℕ} {len′ : ℕ} → (getD w (from + i) 0 ≡ mark → ⊥) → Appended w w′ to mostSymbols len len′ (getD w (from + i) 0 ∷ [])
           → Returning mark first w₀ w′ from n to len′ k (i + 1)
       unfolding returned count
       returning-other other a =
@@ -166,7 +169,7 @@ module _
         filed-now = filed-kept (back .region) (r .appended) k filed-here
 
         pub returning-mark :
-            {w′ : List ℕ} {len′ : ℕ} → Appended w w′ to 8192 len len′ (storedAt w k)
+            {w′ : List ℕ} {len′ : ℕ} → Appended w w′ to mostSymbols len len′ (storedAt w k)
             → Returning mark first w₀ w′ from n to len′ (k + 1) (i + 1)
         unfolding returned count
         returning-mark a =

@@ -14,6 +14,7 @@ use lib.Dec.{ltb}
 use borrow.Author.Tests.{ltb-true}
 use lib.ListN.{length, set, length-append}
 use lib.Seq.{set-comm}
+use Rattle.spec.specs.Result.{mostSymbols}
 use Rattle.text_symbols.specs.Parts.{part}
 use Rattle.text.specs.Writer.{stored, puts, Appended, Apart, appended-none, appended-more}
 use Rattle.held_laws.specs.Marks.{concat}
@@ -97,7 +98,7 @@ files-more (c ∷ bs) b start =
 pub record HeldOut (w w′ : List ℕ) (to used₀ filed₀ len used filed : ℕ) (out : List ℕ) (bs : List (List ℕ)) : Type 0 where
   pub w₁ : List ℕ
   pub w₂ : List ℕ
-  pub text : Appended w w₁ to 8192 0 len out
+  pub text : Appended w w₁ to mostSymbols 0 len out
   pub block : Appended w₁ w₂ blocksAt blocksRoom used₀ used (concat bs)
   pub filing : Appended w₂ w′ placesAt placesRoom filed₀ filed (files used₀ bs)
 
@@ -110,21 +111,21 @@ pub record BlockFiled (w w′ : List ℕ) (at long used used′ filed : ℕ) : T
 pub held-none : (w : List ℕ) (to used filed : ℕ) → HeldOut w w to used filed 0 used filed [] []
 unfolding concat files
 held-none w to used filed =
-    record { w₁ = w; w₂ = w; text = appended-none w to 8192 0; block = appended-none w blocksAt blocksRoom used; filing = appended-none w placesAt placesRoom filed }
+    record { w₁ = w; w₂ = w; text = appended-none w to mostSymbols 0; block = appended-none w blocksAt blocksRoom used; filing = appended-none w placesAt placesRoom filed }
 
 module _
     {w w′ : List ℕ} {to used₀ filed₀ len used filed : ℕ} {out : List ℕ} {bs : List (List ℕ)}
-    (region : to + 8192 ≤ blocksAt) (h : HeldOut w w′ to used₀ filed₀ len used filed out bs)
+    (region : to + mostSymbols ≤ blocksAt) (h : HeldOut w w′ to used₀ filed₀ len used filed out bs)
   where
     -- more text
-    pub held-text : {w″ : List ℕ} {len′ : ℕ} {more : List ℕ} → Appended w′ w″ to 8192 len len′ more → HeldOut w w″ to used₀ filed₀ len′ used filed (out ++ more) bs
+    pub held-text : {w″ : List ℕ} {len′ : ℕ} {more : List ℕ} → Appended w′ w″ to mostSymbols len len′ more → HeldOut w w″ to used₀ filed₀ len′ used filed (out ++ more) bs
     held-text a =
-        let text-places : Apart placesAt placesRoom to 8192 = inr (omega arith) in
-        let text-blocks : Apart blocksAt blocksRoom to 8192 = inr region in
-        let f = first-second placesAt placesRoom to 8192 text-places (h .filing) a in
-        let g = second-first placesAt placesRoom to 8192 text-places (h .filing) a in
-        let f′ = first-second blocksAt blocksRoom to 8192 text-blocks (h .block) f in
-        let g′ = second-first blocksAt blocksRoom to 8192 text-blocks (h .block) f in
+        let text-places : Apart placesAt placesRoom to mostSymbols = inr (omega arith) in
+        let text-blocks : Apart blocksAt blocksRoom to mostSymbols = inr region in
+        let f = first-second placesAt placesRoom to mostSymbols text-places (h .filing) a in
+        let g = second-first placesAt placesRoom to mostSymbols text-places (h .filing) a in
+        let f′ = first-second blocksAt blocksRoom to mostSymbols text-blocks (h .block) f in
+        let g′ = second-first blocksAt blocksRoom to mostSymbols text-blocks (h .block) f in
         record { w₁ = _; w₂ = _; text = appended-more (h .text) f′; block = g′; filing = g }
 
     -- one more block, and its place

@@ -13,6 +13,8 @@ use native.Mathlib.Numerals.{add-one}
 use native.Mathlib.Omega.{arith}
 use lib.ListN.{length, take, drop, length-take, length-drop, take-append-drop, drop-of-length-le}
 use lib.Seq.{drop-drop, take-all}
+use Rattle.spec.specs.Result.{mostSymbols}
+use Rattle.spec.specs.Pipeline.{leastWork}
 use Rattle.spec.specs.Symbols.{starts}
 use Rattle.spec.specs.Laws.Symbols.{starts-long}
 use Rattle.spec.specs.Closing.{findMatchingBrace}
@@ -26,11 +28,11 @@ use Rattle.held_laws.specs.TakeOut.{turn-passing, turn-unclosed, turn-holding}
 use Rattle.held_blocks.specs.Filing.{blocksAt, blocksRoom, placesAt, placesRoom, HeldOut, BlockFiled, held-none, held-text, held-block}
 
 pub record Hold (w : List ℕ) (from n to used filed : ℕ) : Type 0 where
-  pub long : 32768 ≤ length w
+  pub long : leastWork ≤ length w
   pub source : from + n ≤ blocksAt
-  pub region : to + 8192 ≤ blocksAt
-  pub apart : Apart from n to 8192
-  pub short : n ≤ 8192
+  pub region : to + mostSymbols ≤ blocksAt
+  pub apart : Apart from n to mostSymbols
+  pub short : n ≤ mostSymbols
   pub few : used ≤ blocksRoom
   pub small : filed ≤ placesRoom
 
@@ -120,10 +122,10 @@ module _
         rw (← t, ← b) (h .regions)
 
     -- the room for what a turn writes
-    pub text-room : (m : ℕ) → m ≤ 8192 → i ≤ n → Room w to 8192 len m
+    pub text-room : (m : ℕ) → m ≤ mostSymbols → i ≤ n → Room w to mostSymbols len m
     text-room m few l = let a = holding-long in let g = hold .long in let r = hold .region in let x = h .len-bounded in let s = hold .short in record { region = omega arith; small = omega arith }
 
-    pub block-room : (m : ℕ) → m ≤ 8192 → i ≤ n → Room w blocksAt blocksRoom used m
+    pub block-room : (m : ℕ) → m ≤ mostSymbols → i ≤ n → Room w blocksAt blocksRoom used m
     block-room m few l = let a = holding-long in let g = hold .long in let x = h .used-bounded in let s = hold .few in let k = hold .short in record { region = omega arith; small = omega arith }
 
     pub place-room : i ≤ n → Room w placesAt placesRoom filed 4
@@ -147,7 +149,7 @@ module _
 
       -- a symbol is copied
       pub holding-other :
-          {w′ : List ℕ} {len′ : ℕ} → starts name (ahead i) ≡ false → Appended w w′ to 8192 len len′ (part (from + i) 1 w)
+          {w′ : List ℕ} {len′ : ℕ} → starts name (ahead i) ≡ false → Appended w w′ to mostSymbols len len′ (part (from + i) 1 w)
           → Holding name mark w₀ w′ from n to used₀ filed₀ len′ used filed (i + 1)
       holding-other other a =
           let s = part from n w₀ in
@@ -174,7 +176,7 @@ module _
 
         -- a block that doesn't close: the rest is copied
         pub holding-rest :
-            {w′ : List ℕ} {len′ : ℕ} → r ≡ Nothing → Appended w w′ to 8192 len len′ (part (from + i) (n - i) w)
+            {w′ : List ℕ} {len′ : ℕ} → r ≡ Nothing → Appended w w′ to mostSymbols len len′ (part (from + i) (n - i) w)
             → Holding name mark w₀ w′ from n to used₀ filed₀ len′ used filed n
         unfolding takeOut
         holding-rest e a =
@@ -222,7 +224,7 @@ module _
 
           pub holding-held :
               {v w′ : List ℕ} {len′ used′ : ℕ}
-              → Appended w v to 8192 len len′ (mark ∷ [])
+              → Appended w v to mostSymbols len len′ (mark ∷ [])
               → BlockFiled v w′ (from + i) (length name + k + 1) used used′ filed
               → Holding name mark w₀ w′ from n to used₀ filed₀ len′ used′ (filed + 4) (i + length name + k + 1)
           holding-held {v} a kept =
@@ -232,7 +234,7 @@ module _
               let wide = source-long in
               let d = length-drop i s in
               let turn = held-turn in
-              let block = appended-part a (from + i) long (apart-part from n to 8192 i long (hold .apart) (omega arith)) ∙ symbols-read long (omega arith) in
+              let block = appended-part a (from + i) long (apart-part from n to mostSymbols i long (hold .apart) (omega arith)) ∙ symbols-read long (omega arith) in
               let m = length-take long (drop i s) in
               let l : length (take long (drop i s)) ≡ long = omega arith in
               let step : i + long ≡ i + length name + k + 1 = omega arith in

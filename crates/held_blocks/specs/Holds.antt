@@ -11,6 +11,8 @@ use mathlib.Core.List.{List, [], _++_, append-nil}
 use Prim.Native.Nat.{ℕ, _+_, _*_, _≤_}
 use native.Mathlib.Omega.{arith}
 use lib.ListN.{length, drop, length-append}
+use Rattle.spec.specs.Result.{mostSymbols}
+use Rattle.spec.specs.Pipeline.{leastWork}
 use Rattle.spec.specs.Symbols.{bytes, textMark, romanMark}
 use Rattle.spec.specs.Held.{Held, withText, holdTexts, holdBoth, filled, inFull}
 use Rattle.text_symbols.specs.Parts.{part}
@@ -29,7 +31,7 @@ use Rattle.held_blocks.specs.Keeping.{KeepsBlocks, keeps-none, keeps-fil
 
 pub record Holds (w : List ℕ) (at : ℕ) (m : Marked) (h : Held) : Type 0 where
   pub text : part at (m .len) w ≡ h .text
-  pub short : m .len ≤ 8192
+  pub short : m .len ≤ mostSymbols
   pub keeps : KeepsBlocks w (h .texts ++ h .romans)
   pub used : m .used ≡ length (concat (h .texts ++ h .romans))
   pub filed : m .filed ≡ 4 * length (h .texts ++ h .romans)
@@ -37,14 +39,14 @@ pub record Holds (w : List ℕ) (at : ℕ) (m : Marked) (h : Held) : Type 0 wher
 -- ---- holding out
 -- the text that was written stands in its region
 held-text-read :
-    {w w′ : List ℕ} {to used filed len used′ filed′ : ℕ} {out : List ℕ} {bs : List (List ℕ)} → 32768 ≤ length w → to + 8192 ≤ blocksAt
-    → HeldOut w w′ to used filed len used′ filed′ out bs → len ≤ 8192 → part to len w′ ≡ out
+    {w w′ : List ℕ} {to used filed len used′ filed′ : ℕ} {out : List ℕ} {bs : List (List ℕ)} → leastWork ≤ length w → to + mostSymbols ≤ blocksAt
+    → HeldOut w w′ to used filed len used′ filed′ out bs → len ≤ mostSymbols → part to len w′ ≡ out
 held-text-read {to = to} {len = len} long region h short =
     appended-part (h .filing) to len (inl (omega arith))
     ∙ appended-part (h .block) to len (inl (omega arith))
     ∙ appended-text (h .text) (omega arith) short
 
-module _ {w : List ℕ} {from n to : ℕ} (hold : Hold w from n to 0 0) (free : hasMark (part from n w) ≡ false) (source : length (part from n w) ≤ 8192) where
+module _ {w : List ℕ} {from n to : ℕ} (hold : Hold w from n to 0 0) (free : hasMark (part from n w) ≡ false) (source : length (part from n w) ≤ mostSymbols) where
   abbrev s : List ℕ
   s = part from n w
 
@@ -63,7 +65,7 @@ module _ {w : List ℕ} {from n to : ℕ} (hold : Hold w from n to 0 0) (free : 
           let places-few = few .1 in
           let short = texts-short s free source in
           let c = h .text .counted in
-          let len : m .len ≤ 8192 = omega arith in
+          let len : m .len ≤ mostSymbols = omega arith in
           let kept : KeepsBlocks w′ texts = keeps-more [] texts (hold .region) refl refl h (keeps-none w (hold .long)) (omega arith) (omega arith) in
           let used : m .used ≡ length (concat texts) = used-more [] texts (hold .region) refl refl h in
           let filed : m .filed ≡ 4 * length texts = filed-more [] texts (hold .region) refl refl h in
@@ -77,7 +79,7 @@ module _ {w : List ℕ} {from n to : ℕ} (hold : Hold w from n to 0 0) (free : 
 
 -- a second `hold_out`, of what the first has left
 pub holds-both :
-    (s : List ℕ) → hasMark s ≡ false → length s ≤ 8192
+    (s : List ℕ) → hasMark s ≡ false → length s ≤ mostSymbols
     → {w w′ : List ℕ} {at to : ℕ} {m m′ : Marked} → Holds w at m (holdTexts s) → Hold w at (m .len) to (m .used) (m .filed)
     → HeldOut w w′ to (m .used) (m .filed) (m′ .len) (m′ .used) (m′ .filed) (takenFrom (bytes "\\mathrm{") romanMark (part at (m .len) w) .left) (takenFrom (bytes "\\mathrm{") romanMark (part at (m .len) w) .blocks)
     → Holds w′ to m′ (holdBoth s)
@@ -91,7 +93,7 @@ holds-both s free source {w} {w′} {at} {to} {m} {m′} held hold h =
     let places-few = few .1 in
     let short = both-short s free source in
     let c = g .text .counted in
-    let len : m′ .len ≤ 8192 = omega arith in
+    let len : m′ .len ≤ mostSymbols = omega arith in
     let used : m .used ≡ length (concat texts) = held .used ∙ ap (λ bs. length (concat bs)) (append-nil texts) in
     let filed : m .filed ≡ 4 * length texts = held .filed ∙ ap (λ (bs : List (List ℕ)). 4 * length bs) (append-nil texts) in
     let kept : KeepsBlocks w texts = subst (KeepsBlocks w) (append-nil texts) (held .keeps) in
@@ -106,7 +108,7 @@ holds-both s free source {w} {w′} {at} {to} {m} {m′} held hold h =
 -- ---- with what is held
 module _ {w : List ℕ} {at : ℕ} {m : Marked} {h : Held} (holds : Holds w at m h) where
   pub holds-rewritten :
-      {w′ : List ℕ} {to n : ℕ} {s : List ℕ} → length w′ ≡ length w → drop blocksAt w′ ≡ drop blocksAt w → part to n w′ ≡ s → n ≤ 8192
+      {w′ : List ℕ} {to n : ℕ} {s : List ℕ} → length w′ ≡ length w → drop blocksAt w′ ≡ drop blocksAt w → part to n w′ ≡ s → n ≤ mostSymbols
       → Holds w′ to (record { len = n; used = m .used; filed = m .filed }) (withText h s)
   holds-rewritten l beyond text short =
       record { text = text; short = short; keeps = keeps-beyond l beyond (holds .keeps); used = holds .used; filed = holds .filed }
@@ -124,7 +126,7 @@ module _ {w : List ℕ} {at : ℕ} {m : Marked} {h : Held} (holds : Holds w at m
         (ap (λ s. noted (order 0 (length (h .texts)) s) s) (holds .text))
 
     -- ---- putting back
-    module _ {to : ℕ} (source : at + 8192 ≤ blocksAt) (region : to + 8192 ≤ blocksAt) (apart : Apart at (m .len) to 8192) where
+    module _ {to : ℕ} (source : at + mostSymbols ≤ blocksAt) (region : to + mostSymbols ≤ blocksAt) (apart : Apart at (m .len) to mostSymbols) where
       roman-count : count romanMark (part at (m .len) w) ≡ length (h .romans)
       roman-count = ap (count romanMark) (holds .text) ∙ made .roman-marks
 
@@ -146,11 +148,11 @@ module _ {w : List ℕ} {at : ℕ} {m : Marked} {h : Held} (holds : Holds w at m
 
       module _
           {w′ : List ℕ} {n : ℕ}
-          (a : Appended w w′ to 8192 0 n (filled romanMark (storedFrom w (length (h .texts)) (count romanMark (part at (m .len) w))) (part at (m .len) w)))
+          (a : Appended w w′ to mostSymbols 0 n (filled romanMark (storedFrom w (length (h .texts)) (count romanMark (part at (m .len) w))) (part at (m .len) w)))
         where
-          pub romans-back : Appended w w′ to 8192 0 n (filled romanMark (h .romans) (h .text))
+          pub romans-back : Appended w w′ to mostSymbols 0 n (filled romanMark (h .romans) (h .text))
           romans-back =
-              subst (λ l. Appended w w′ to 8192 0 n l)
+              subst (λ l. Appended w w′ to mostSymbols 0 n l)
               (ap₂ (filled romanMark)
               (ap (storedFrom w (length (h .texts))) roman-count
               ∙ keeps-stored (h .texts) (h .romans) [] (subst (λ bs. KeepsBlocks w (h .texts ++ bs)) (sym (append-nil (h .romans))) (holds .keeps)))
@@ -158,7 +160,7 @@ module _ {w : List ℕ} {at : ℕ} {m : Marked} {h : Held} (holds : Holds w at m
               a
 
           -- what stands at `to` then, if it isn't too long, and the blocks as they were
-          module _ (short : n ≤ 8192) where
+          module _ (short : n ≤ mostSymbols) where
             texts-read : part to n w′ ≡ filled romanMark (h .romans) (h .text)
             texts-read = let l = holds .keeps .long in appended-text romans-back (omega arith) short
 
@@ -170,7 +172,7 @@ module _ {w : List ℕ} {at : ℕ} {m : Marked} {h : Held} (holds : Holds w at m
             text-count : count textMark (part to n w′) ≡ length (h .texts)
             text-count = ap (count textMark) texts-read ∙ text-marks-left made
 
-            pub back-texts : {to′ : ℕ} → to′ + 8192 ≤ blocksAt → Apart to n to′ 8192 → Back w′ to n to′ textMark 0
+            pub back-texts : {to′ : ℕ} → to′ + mostSymbols ≤ blocksAt → Apart to n to′ mostSymbols → Back w′ to n to′ textMark 0
             back-texts region′ apart′ =
                 let few = kept-on .short in
                 let l = length-append (h .texts) (h .romans) in
@@ -186,10 +188,10 @@ module _ {w : List ℕ} {at : ℕ} {m : Marked} {h : Held} (holds : Holds w at m
                 }
 
             pub all-back :
-                {w″ : List ℕ} {to′ n′ : ℕ} → Appended w′ w″ to′ 8192 0 n′ (filled textMark (storedFrom w′ 0 (count textMark (part to n w′))) (part to n w′))
-                → Appended w′ w″ to′ 8192 0 n′ (inFull h)
+                {w″ : List ℕ} {to′ n′ : ℕ} → Appended w′ w″ to′ mostSymbols 0 n′ (filled textMark (storedFrom w′ 0 (count textMark (part to n w′))) (part to n w′))
+                → Appended w′ w″ to′ mostSymbols 0 n′ (inFull h)
             unfolding inFull
             all-back {w″} {to′} {n′} b =
-                subst (λ l. Appended w′ w″ to′ 8192 0 n′ l)
+                subst (λ l. Appended w′ w″ to′ mostSymbols 0 n′ l)
                 (ap₂ (filled textMark) (ap (storedFrom w′ 0) text-count ∙ keeps-stored [] (h .texts) (h .romans) kept-on) texts-read)
                 b

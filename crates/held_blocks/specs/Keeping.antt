@@ -12,6 +12,8 @@ use native.Mathlib.Nat.{add-zero, zero-add, add-suc, suc-add, not-suc-le-zero}
 use native.Mathlib.Omega.{arith}
 use lib.ListN.{length, getD, take, drop, length-append}
 use lib.Seq.{drop-drop, drop-append-add, take-append-seam, getD-take, getD-drop}
+use Rattle.spec.specs.Result.{mostSymbols}
+use Rattle.spec.specs.Pipeline.{leastWork}
 use Rattle.text_symbols.specs.Parts.{part, getD-part, sub-part}
 use Rattle.text.specs.Writer.{Appended, appended-long, appended-part}
 use Rattle.text.specs.Written.{Wrote, wrote-more, wrote-text}
@@ -21,13 +23,13 @@ use Rattle.held_blocks.specs.Filing.{blocksAt, blocksRoom, placesAt, pla
 use Rattle.held_blocks.specs.Back.{startAt, longAt, storedAt, storedFrom, Filed}
 
 pub record KeepsBlocks (w : List ℕ) (bs : List (List ℕ)) : Type 0 where
-  pub long : 32768 ≤ length w
+  pub long : leastWork ≤ length w
   pub block : part blocksAt (length (concat bs)) w ≡ concat bs
   pub filing : part placesAt (4 * length bs) w ≡ files 0 bs
   pub few : length (concat bs) ≤ blocksRoom
   pub short : 4 * length bs ≤ placesRoom
 
-pub keeps-none : (w : List ℕ) → 32768 ≤ length w → KeepsBlocks w []
+pub keeps-none : (w : List ℕ) → leastWork ≤ length w → KeepsBlocks w []
 unfolding concat files
 keeps-none w h = record { long = h; block = refl; filing = refl; few = omega arith; short = omega arith }
 
@@ -140,7 +142,7 @@ files-long [] start = refl
 files-long (b ∷ bs) start = let l = files-long bs (start + length b) in omega arith
 
 module _
-    {w w′ : List ℕ} {to used filed len used′ filed′ : ℕ} {out : List ℕ} (bs cs : List (List ℕ)) (region : to + 8192 ≤ blocksAt)
+    {w w′ : List ℕ} {to used filed len used′ filed′ : ℕ} {out : List ℕ} (bs cs : List (List ℕ)) (region : to + mostSymbols ≤ blocksAt)
     (u : used ≡ length (concat bs)) (f : filed ≡ 4 * length bs) (h : HeldOut w w′ to used filed len used′ filed′ out cs)
   where
     pub used-more : used′ ≡ length (concat (bs ++ cs))

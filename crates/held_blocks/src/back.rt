@@ -2,6 +2,8 @@
 ghost use mathlib.Core.Path.{_≡_};
 ghost use Prim.Native.Nat.{_+_, _≤_};
 ghost use lib.ListN.{length};
+ghost use Rattle.spec.specs.Result.{mostSymbols};
+ghost use Rattle.spec.specs.Pipeline.{leastWork};
 ghost use Rattle.spec.specs.Held.{filled};
 ghost use Rattle.text_symbols.specs.Parts.{part};
 ghost use Rattle.text.specs.Writer.{Room, Appended};
@@ -11,10 +13,10 @@ ghost use Rattle.held_blocks.specs.Back.{Filed, Back, storedAt, storedFr
 
 // Appends block k, which is found by its place.
 fn put_block(work: &mut [u8], to: usize, len: usize, k: usize) -> usize
-    requires { ⌜ Room (now work) to 8192 len 11264 ⌝ }
+    requires { ⌜ Room (now work) to mostSymbols len 11264 ⌝ }
     requires { ⌜ Filed (now work) k ⌝ }
-    requires { ⌜ (32768 ≤ length (now work)) × (to + 8192 ≤ blocksAt) ⌝ }
-    ensures { λ r. ⌜ Appended (now (work .entry)) (now (work .exit)) to 8192 len r (storedAt (now (work .entry)) k) ⌝ }
+    requires { ⌜ (leastWork ≤ length (now work)) × (to + mostSymbols ≤ blocksAt) ⌝ }
+    ensures { λ r. ⌜ Appended (now (work .entry)) (now (work .exit)) to mostSymbols len r (storedAt (now (work .entry)) k) ⌝ }
 {
     let at = super::PLACES_AT + 4 * k;
     let start = text_symbols::wide(work[at]) * 256 + text_symbols::wide(work[at + 1]);
@@ -25,7 +27,7 @@ fn put_block(work: &mut [u8], to: usize, len: usize, k: usize) -> usize
 // Writes the `n` symbols at `from` to `to`, with block `first` for the first mark, the next block for the next, and so on.
 pub fn put_back(work: &mut [u8], from: usize, n: usize, to: usize, mark: u8, first: usize) -> usize
     requires { ⌜ Back (now work) from n to mark first ⌝ }
-    ensures { λ r. ⌜ Appended (now (work .entry)) (now (work .exit)) to 8192 0 r (filled mark (storedFrom (now (work .entry)) first (count mark (part from n (now (work .entry))))) (part from n (now (work .entry)))) ⌝ }
+    ensures { λ r. ⌜ Appended (now (work .entry)) (now (work .exit)) to mostSymbols 0 r (filled mark (storedFrom (now (work .entry)) first (count mark (part from n (now (work .entry))))) (part from n (now (work .entry)))) ⌝ }
 {
     let mut len = 0;
     let mut k = first;

@@ -12,6 +12,7 @@ use lib.Dec.{eqb}
 use lib.ListN.{length, take, drop, length-append, length-drop, take-append-drop}
 use lib.Seq.{take-append-le, take-append-seam}
 use borrow.Author.Tests.{eq-eqb}
+use Rattle.spec.specs.Result.{mostSymbols}
 use Rattle.spec.specs.Symbols.{bytes, starts, textMark, romanMark}
 use Rattle.spec.specs.Laws.Symbols.{starts-long, starts-split}
 use Rattle.spec.specs.Closing.{findMatchingBrace}
@@ -141,8 +142,8 @@ module _ (s : List ℕ) (free : hasMark s ≡ false) where
       ap (filled textMark (textsTaken s .blocks)) (taken-filled (bytes "\\mathrm{") romanMark (roman-left s free) (romanTurns s))
       ∙ taken-filled (bytes "\\text{") textMark (unmarked-count s free .0) (textTurns s)
 
-  module _ (short : length s ≤ 8192) where
-    pub texts-few : (length (concat (holdTexts s .texts)) ≤ 8192) × (4 * length (holdTexts s .texts) ≤ 4680)
+  module _ (short : length s ≤ mostSymbols) where
+    pub texts-few : (length (concat (holdTexts s .texts)) ≤ mostSymbols) × (4 * length (holdTexts s .texts) ≤ 4680)
     unfolding holdTexts
     texts-few =
         let l = taken-length (bytes "\\text{") textMark (textTurns s) in
@@ -154,14 +155,14 @@ module _ (s : List ℕ) (free : hasMark s ≡ false) where
         (omega arith, omega arith)
 
     -- a text with marks is no longer than the text
-    pub texts-short : length (holdTexts s .text) ≤ 8192
+    pub texts-short : length (holdTexts s .text) ≤ mostSymbols
     unfolding holdTexts
     texts-short =
         let l = taken-length (bytes "\\text{") textMark (textTurns s) in
         let m = taken-long (bytes "\\text{") textMark (omega arith) (textTurns s) in
         omega arith
 
-    pub both-short : length (holdBoth s .text) ≤ 8192
+    pub both-short : length (holdBoth s .text) ≤ mostSymbols
     unfolding holdBoth holdTexts
     both-short =
         let l = taken-length (bytes "\\text{") textMark (textTurns s) in

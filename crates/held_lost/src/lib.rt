@@ -6,6 +6,7 @@ ghost use mathlib.Core.Bool.{_||_};
 ghost use mathlib.Core.Path.{_≡_};
 ghost use Prim.Native.Nat.{_+_, _<_, _≤_};
 ghost use lib.ListN.{length};
+ghost use Rattle.spec.specs.Result.{mostSymbols};
 ghost use Rattle.text_symbols.specs.Parts.{part};
 ghost use Rattle.held_laws.specs.Marks.{isMark, hasMark, first, order};
 ghost use Rattle.held_laws.specs.Numeral as numerals;
@@ -104,7 +105,7 @@ fn takes(s: &[u8], k: usize, a: usize, r: usize) -> bool
 
 // Whether some number between two marks is taken for a block.
 fn number_taken(s: &[u8], texts: usize) -> bool
-    requires { ⌜ (length (now s) ≤ 8192) × (texts ≤ 8192) ⌝ }
+    requires { ⌜ (length (now s) ≤ mostSymbols) × (texts ≤ mostSymbols) ⌝ }
     ensures { λ t. ⌜ t ≡ noting.noted (order 0 texts (now (s .entry))) (now (s .entry)) ⌝ }
 {
     let mut a = 0;
@@ -133,7 +134,7 @@ fn number_taken(s: &[u8], texts: usize) -> bool
 // Whether the Rust loses a block: a `\mathrm` block holds a mark, or a number is taken for a block.
 pub fn lost(work: &[u8], from: usize, n: usize, texts: usize, used: usize) -> bool
     requires { ⌜ (from + n ≤ length (now work)) × (blocksAt + used ≤ length (now work)) ⌝ }
-    requires { ⌜ (n ≤ 8192) × (texts ≤ 8192) ⌝ }
+    requires { ⌜ (n ≤ mostSymbols) × (texts ≤ mostSymbols) ⌝ }
     ensures { λ r. ⌜ r ≡ hasMark (part blocksAt used (now (work .entry))) || noting.noted (order 0 texts (part from n (now (work .entry)))) (part from n (now (work .entry))) ⌝ }
 {
     let full = held_blocks::BLOCKS_AT + used;

@@ -11,6 +11,7 @@ use Prim.Native.Nat.{ℕ, _+_, _-_, _≤_}
 use native.Mathlib.Omega.{arith}
 use lib.Dec.{ltb}
 use lib.ListN.{length, length-append}
+use Rattle.text_search.specs.Half.{halfWork}
 use Rattle.spec.specs.Symbols.{textMark, romanMark}
 use Rattle.spec.specs.Held.{Held, withText, inFull, filled, heldStage, putBack}
 use Rattle.spec.specs.Result.{Result, passed, refused, _then_, mostSymbols}
@@ -60,19 +61,19 @@ module _ {w : List ℕ} {p : Progress} {texts used from n : ℕ} {h : Held} (car
   marked : AwaitsBlocks w from n texts used h
   marked = carries .marked from n e
 
-  region : from + 8192 ≤ 16384
+  region : from + mostSymbols ≤ halfWork
   region = ⊎-elim (λ z. omega arith) (λ z. omega arith) (placed-text (carries .ready) e .0)
 
-  other : (8192 - from) + 8192 ≤ 16384
+  other : (mostSymbols - from) + mostSymbols ≤ halfWork
   other = ⊎-elim (λ z. omega arith) (λ z. omega arith) (placed-text (carries .ready) e .0)
 
-  pub lost-within : (from + n ≤ length w) × (16384 + used ≤ length w)
+  pub lost-within : (from + n ≤ length w) × (halfWork + used ≤ length w)
   lost-within =
       let f = placed-fits (carries .ready) e in let l = carries .ready .long in
       let u = marked .holds .used in let few = marked .holds .keeps .few in
       (omega arith, omega arith)
 
-  pub lost-few : (n ≤ 8192) × (texts ≤ 8192)
+  pub lost-few : (n ≤ mostSymbols) × (texts ≤ mostSymbols)
   lost-few =
       let s = marked .holds .short in let t = marked .many in
       let few = marked .holds .keeps .short in let l = length-append (h .texts) (h .romans) in
@@ -108,37 +109,37 @@ module _ {w : List ℕ} {p : Progress} {texts used from n : ℕ} {h : Held} (car
         placed = tt;
       }
 
-  pub romans-asked : Back w from n (8192 - from) romanMark texts
+  pub romans-asked : Back w from n (mostSymbols - from) romanMark texts
   romans-asked =
       rw (marked .many) (back-romans (marked .holds) (marked .well-made) region other (placed-regions (carries .ready) e .apart))
 
   module _
       {w′ : List ℕ} {half : ℕ}
-      (a : Appended w w′ (8192 - from) 8192 0 half (filled romanMark (storedFrom w texts (count romanMark (part from n w))) (part from n w)))
+      (a : Appended w w′ (mostSymbols - from) mostSymbols 0 half (filled romanMark (storedFrom w texts (count romanMark (part from n w))) (part from n w)))
     where
-      romans : Appended w w′ (8192 - from) 8192 0 half (filled romanMark (storedFrom w (length (h .texts)) (count romanMark (part from n w))) (part from n w))
-      romans = subst (λ k. Appended w w′ (8192 - from) 8192 0 half (filled romanMark (storedFrom w k (count romanMark (part from n w))) (part from n w))) (marked .many) a
+      romans : Appended w w′ (mostSymbols - from) mostSymbols 0 half (filled romanMark (storedFrom w (length (h .texts)) (count romanMark (part from n w))) (part from n w))
+      romans = subst (λ k. Appended w w′ (mostSymbols - from) mostSymbols 0 half (filled romanMark (storedFrom w k (count romanMark (part from n w))) (part from n w))) (marked .many) a
 
-      half-fits : half ≤ 8192
+      half-fits : half ≤ mostSymbols
       half-fits =
           let c = romans-back (marked .holds) (marked .well-made) region other (placed-regions (carries .ready) e .apart) romans .counted in
           let s = half-short (marked .well-made) in let m = marked .short in
           omega arith
 
-      away : Apart (8192 - from) half from 8192
+      away : Apart (mostSymbols - from) half from mostSymbols
       away = let s = half-fits in ⊎-elim (λ z. inr (omega arith)) (λ z. inl (omega arith)) (placed-text (carries .ready) e .0)
 
-      pub texts-asked : Back w′ (8192 - from) half from textMark 0
+      pub texts-asked : Back w′ (mostSymbols - from) half from textMark 0
       texts-asked = back-texts (marked .holds) (marked .well-made) region other (placed-regions (carries .ready) e .apart) romans half-fits region away
 
       pub back-whole :
           {w″ : List ℕ} {len : ℕ} → lost (withText h (part from n w)) ≡ false
-          → Appended w′ w″ from 8192 0 len (filled textMark (storedFrom w′ 0 (count textMark (part (8192 - from) half w′))) (part (8192 - from) half w′))
+          → Appended w′ w″ from mostSymbols 0 len (filled textMark (storedFrom w′ 0 (count textMark (part (mostSymbols - from) half w′))) (part (mostSymbols - from) half w′))
           → Answered w w″ p (Text from len) (λ t. putBack (withText h t))
       back-whole {w″} {len} l b =
           let whole = all-back (marked .holds) (marked .well-made) region other (placed-regions (carries .ready) e .apart) romans half-fits b in
           let c = whole .counted in let m = marked .short in
-          let fits : len ≤ 8192 = omega arith in
+          let fits : len ≤ mostSymbols = omega arith in
           let la = appended-long a in let long = carries .ready .long in let r = region in
           record {
             answer = ap passed (appended-text whole (omega arith) fits)

@@ -10,6 +10,8 @@ use mathlib.Core.Logic.{_⊎_, inl, inr, ⊎-elim}
 use Prim.Native.Nat.{ℕ, _+_, _-_, _*_, _/_, _≤_}
 use native.Mathlib.Omega.{arith}
 use lib.ListN.{length, length-append}
+use Rattle.spec.specs.Result.{mostSymbols}
+use Rattle.text_search.specs.Half.{halfWork}
 use Rattle.spec.specs.Symbols.{bytes, contains, textMark, romanMark}
 use Rattle.spec.specs.Held.{Held, holdTexts, holdBoth, inFull, filled}
 use Rattle.spec.specs.Laws.Held.{hold-texts-none, hold-both-none}
@@ -50,10 +52,10 @@ pub record HeldFrom (w w′ : List ℕ) (r : OutsideText) (h : Held) : Type 0 wh
   pub filed : ℕ
   pub holds : Holds w′ (r .at) (record { len = r .len; used = r .used; filed = filed }) h
   pub well-made : WellMade h
-  pub placed : (r .at ≡ 0) ⊎ (r .at ≡ 8192)
+  pub placed : (r .at ≡ 0) ⊎ (r .at ≡ mostSymbols)
   pub texts : r .texts ≡ length (h .texts)
   pub extra : Extra h (r .extra)
-  pub within : r .len + r .extra ≤ 8192
+  pub within : r .len + r .extra ≤ mostSymbols
   pub long : length w′ ≡ length w
 
 -- ---- blocks have symbols
@@ -106,14 +108,14 @@ module _ {w′ : List ℕ} {at : ℕ} {m : Marked} {h : Held} (holds : Holds w�
   extra-fits = let b = blocks in let s = used-symbols in let t = texts-long made in let r = romans-long made in omega arith
 
   pub held-counted :
-      {w : List ℕ} {texts : ℕ} → (at ≡ 0) ⊎ (at ≡ 8192) → texts ≡ length (h .texts) → length (inFull h) ≤ 8192 → length w′ ≡ length w
+      {w : List ℕ} {texts : ℕ} → (at ≡ 0) ⊎ (at ≡ mostSymbols) → texts ≡ length (h .texts) → length (inFull h) ≤ mostSymbols → length w′ ≡ length w
       → HeldFrom w w′ (record { at = at; len = m .len; texts = texts; used = m .used; extra = m .used - m .filed / 4 }) h
   held-counted placed texts short long =
       let b = blocks in let s = used-symbols in let f = extra-fits in
       let extra : Extra h (m .used - m .filed / 4) = omega arith in
       let full = full-long made (m .used - m .filed / 4) extra in
       let l = holds .keeps .long in
-      let region : at + 8192 ≤ 16384 = ⊎-elim (λ z. omega arith) (λ z. omega arith) placed in
+      let region : at + mostSymbols ≤ halfWork = ⊎-elim (λ z. omega arith) (λ z. omega arith) placed in
       let size = holds .short in
       let n = length-part at (m .len) w′ (omega arith) in
       let t = ap length (holds .text) in
@@ -134,13 +136,13 @@ held-long h = appended-long (h .filing) ∙ appended-long (h .block) ∙ appende
 
 -- ---- the two hold-outs
 module _ {w : List ℕ} {from n : ℕ} (able : Holdable w from n) where
-  placed : ((from ≡ 0) ⊎ (from ≡ 8192)) × (n ≤ 8192)
+  placed : ((from ≡ 0) ⊎ (from ≡ mostSymbols)) × (n ≤ mostSymbols)
   placed = placed-text (able .ready) refl
 
   pub source-long : length (part from n w) ≡ n
   source-long = let l = able .ready .long in let f = placed-fits (able .ready) refl in length-part from n w (omega arith)
 
-  pub hold-first : Hold w from n (8192 - from) 0 0
+  pub hold-first : Hold w from n (mostSymbols - from) 0 0
   hold-first =
       let r = placed-regions (able .ready) refl in
       let p = placed .1 in
@@ -154,7 +156,7 @@ module _ {w : List ℕ} {from n : ℕ} (able : Holdable w from n) where
         small = omega arith;
       }
 
-  short : length (part from n w) ≤ 8192
+  short : length (part from n w) ≤ mostSymbols
   short = let l = source-long in let p = placed .1 in omega arith
 
   -- there is no `\text` block
@@ -177,9 +179,9 @@ module _ {w : List ℕ} {from n : ℕ} (able : Holdable w from n) where
 
   module _
       {w′ : List ℕ} {m : Marked}
-      (h : HeldOut w w′ (8192 - from) 0 0 (m .len) (m .used) (m .filed) (takenFrom (bytes "\\text{") textMark (part from n w) .left) (takenFrom (bytes "\\text{") textMark (part from n w) .blocks))
+      (h : HeldOut w w′ (mostSymbols - from) 0 0 (m .len) (m .used) (m .filed) (takenFrom (bytes "\\text{") textMark (part from n w) .left) (takenFrom (bytes "\\text{") textMark (part from n w) .blocks))
     where
-      first-holds : Holds w′ (8192 - from) m (holdTexts (part from n w))
+      first-holds : Holds w′ (mostSymbols - from) m (holdTexts (part from n w))
       first-holds = holds-texts hold-first (able .mark-free) short h
 
       first-made : WellMade (holdTexts (part from n w))
@@ -196,7 +198,7 @@ module _ {w : List ℕ} {from n : ℕ} (able : Holdable w from n) where
       unfolding holdTexts
       first-texts = let b = blocks first-holds first-made in omega arith
 
-      pub texts-counted : HeldFrom w w′ (record { at = 8192 - from; len = m .len; texts = m .filed / 4; used = m .used; extra = m .used - m .filed / 4 }) (holdTexts (part from n w))
+      pub texts-counted : HeldFrom w w′ (record { at = mostSymbols - from; len = m .len; texts = m .filed / 4; used = m .used; extra = m .used - m .filed / 4 }) (holdTexts (part from n w))
       texts-counted =
           let full = ap length (hold-texts-full (part from n w) (able .mark-free)) in
           let s = short in
@@ -204,10 +206,10 @@ module _ {w : List ℕ} {from n : ℕ} (able : Holdable w from n) where
 
   -- ---- the second, of what the first has left
   module _ {w′ : List ℕ} {t : OutsideText} (first : HeldFrom w w′ t (holdTexts (part from n w))) where
-    pub second-fits : t .at + t .len ≤ 16384
+    pub second-fits : t .at + t .len ≤ halfWork
     second-fits = let s = first .holds .short in ⊎-elim (λ z. omega arith) (λ z. omega arith) (first .placed)
 
-    pub second-low : t .at ≤ 8192
+    pub second-low : t .at ≤ mostSymbols
     second-low = ⊎-elim (λ z. omega arith) (λ z. omega arith) (first .placed)
 
     -- there is no `\mathrm` block
@@ -229,7 +231,7 @@ module _ {w : List ℕ} {from n : ℕ} (able : Holdable w from n) where
     first-held : Holds w′ (t .at) filedTexts (holdTexts (part from n w))
     first-held = subst (λ f. Holds w′ (t .at) (record { len = t .len; used = t .used; filed = f }) (holdTexts (part from n w))) four (first .holds)
 
-    pub hold-second : Hold w′ (t .at) (t .len) (8192 - t .at) (t .used) (4 * t .texts)
+    pub hold-second : Hold w′ (t .at) (t .len) (mostSymbols - t .at) (t .used) (4 * t .texts)
     hold-second =
         let s = first-held .short in
         let u = first-held .used in let few = first-held .keeps .few in
@@ -246,9 +248,9 @@ module _ {w : List ℕ} {from n : ℕ} (able : Holdable w from n) where
 
     module _
         {w″ : List ℕ} {m : Marked}
-        (g : HeldOut w′ w″ (8192 - t .at) (t .used) (4 * t .texts) (m .len) (m .used) (m .filed) (takenFrom (bytes "\\mathrm{") romanMark (part (t .at) (t .len) w′) .left) (takenFrom (bytes "\\mathrm{") romanMark (part (t .at) (t .len) w′) .blocks))
+        (g : HeldOut w′ w″ (mostSymbols - t .at) (t .used) (4 * t .texts) (m .len) (m .used) (m .filed) (takenFrom (bytes "\\mathrm{") romanMark (part (t .at) (t .len) w′) .left) (takenFrom (bytes "\\mathrm{") romanMark (part (t .at) (t .len) w′) .blocks))
       where
-        second-holds : Holds w″ (8192 - t .at) m (holdBoth (part from n w))
+        second-holds : Holds w″ (mostSymbols - t .at) m (holdBoth (part from n w))
         second-holds = holds-both (part from n w) (able .mark-free) short first-held hold-second g
 
         second-made : WellMade (holdBoth (part from n w))
@@ -261,7 +263,7 @@ module _ {w : List ℕ} {from n : ℕ} (able : Holdable w from n) where
         unfolding holdBoth
         second-texts = first .texts
 
-        pub both-counted : HeldFrom w w″ (record { at = 8192 - t .at; len = m .len; texts = t .texts; used = m .used; extra = m .used - m .filed / 4 }) (holdBoth (part from n w))
+        pub both-counted : HeldFrom w w″ (record { at = mostSymbols - t .at; len = m .len; texts = t .texts; used = m .used; extra = m .used - m .filed / 4 }) (holdBoth (part from n w))
         both-counted =
             let full = ap length (hold-both-full (part from n w) (able .mark-free)) in
             let s = short in

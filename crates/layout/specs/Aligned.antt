@@ -4,11 +4,13 @@ use mathlib.Core.Path.{_≡_, refl, sym, ap, ap₂, _∙_, subst}
 use mathlib.Core.Bool.{Bool, true, false, _&&_, _||_}
 use mathlib.Core.List.{List, [], _∷_, _++_, reverse}
 use Prim.Native.Nat.{ℕ, suc, _+_, _-_, _*_, _≤_, _<_}
+use Prim.Native.Char.{code}
 use native.Mathlib.Numerals.{add-one}
 use native.Mathlib.Omega.{arith}
 use lib.Dec.{eqb}
 use lib.ListN.{length, getD, drop, length-drop}
 use borrow.Author.Tests.{eq-eqb, ne-eqb}
+use Rattle.spec.specs.Result.{mostSymbols}
 use Rattle.spec.specs.Symbols.{bytes, is, empty, trim, starts, ends}
 use Rattle.spec.specs.Finish.{hasAlignment, hasLineBreaks, lineBreaks, aligned, convertAlignment}
 use Rattle.spec.specs.Laws.Symbols.{drop-step, head-drop}
@@ -44,7 +46,7 @@ lined-whole s n l =
 -- ---- a line break at a place
 pub break-is :
     (s : List ℕ) (i before next : ℕ) → i < length s → before ≡ getD (0 ∷ s) i 0 → next ≡ getD s (i + 1) 0
-    → eqb (getD s i 0) 92 && (eqb before 32 && (eqb next 10 || eqb (length s) (i + 1))) ≡ breakAt s i
+    → eqb (getD s i 0) (code "\\") && (eqb before (code " ") && (eqb next (code "\n") || eqb (length s) (i + 1))) ≡ breakAt s i
 break-is s i before next h b n =
     ap₂ (λ x t. is "\\" (getD s i 0) && (is " " x && t)) b (ap₂ (λ y t. is "\n" y || t) (n ∙ sym (head-drop s (i + 1))) empty-is)
   where
@@ -70,7 +72,7 @@ ends-is s h =
     sym all ∙ before-next s (n - 1) (omega arith)
     ∙ ap (λ t. getD s (n - 1) 0 ∷ t) (ap (before s) b ∙ before-next s (n - 2) (omega arith))
     in
-    sym (ap (starts (92 ∷ 32 ∷ [])) two)
+    sym (ap (starts (code "\\" ∷ code " " ∷ [])) two)
 
 -- ---- the cases of the stage
 pub align-some : (s : List ℕ) → hasAlignment s ≡ true → convertAlignment s ≡ aligned (lineBreaks s)
@@ -87,18 +89,18 @@ align-none s e f = rw (e, f, convertAlignment)
 
 -- ---- what has been appended
 pub record Lines (w w′ : List ℕ) (from n to count r start stop : ℕ) : Type 0 where
-  pub appended : Appended w w′ to 8192 count r (linedTo (part from n w) stop start)
+  pub appended : Appended w w′ to mostSymbols count r (linedTo (part from n w) stop start)
   pub few : r ≤ count + 2 * (stop - start)
 
 pub record Aligned (w w′ : List ℕ) (from n to r : ℕ) : Type 0 where
-  pub appended : Appended w w′ to 8192 0 r (aligned (lineBreaks (part from n w)))
+  pub appended : Appended w w′ to mostSymbols 0 r (aligned (lineBreaks (part from n w)))
 
 pub aligned-by :
     {w w₁ w₂ w₃ : List ℕ} {from n to a b r : ℕ} {span : Span}
     → Trimmed (part from (from + n - from) w) span → part from n w₁ ≡ part from n w
-    → Appended w w₁ to 8192 0 a (bytes "\\begin{aligned}\n")
-    → Appended w₁ w₂ to 8192 a b (linedTo (part from n w₁) (span .end) (span .start))
-    → Appended w₂ w₃ to 8192 b r (bytes "\n\\end{aligned}")
+    → Appended w w₁ to mostSymbols 0 a (bytes "\\begin{aligned}\n")
+    → Appended w₁ w₂ to mostSymbols a b (linedTo (part from n w₁) (span .end) (span .start))
+    → Appended w₂ w₃ to mostSymbols b r (bytes "\n\\end{aligned}")
     → Aligned w w₃ from n to r
 unfolding linedTo
 aligned-by {w} {w₁} {w₂} {w₃} {from} {n} {to} {a} {b} {r} {span} trimmed same opens lines closes =
@@ -108,7 +110,7 @@ aligned-by {w} {w₁} {w₂} {w₃} {from} {n} {to} {a} {b} {r} {span} trimmed s
     ap (λ u. linedTo u (span .end) (span .start)) same ∙ sym (ap trim (lines-with-breaks s) ∙ trim-with-breaks s t)
     in
     record {
-      appended = appended-more (appended-more opens (subst (Appended w₁ w₂ to 8192 a b) e lines)) closes;
+      appended = appended-more (appended-more opens (subst (Appended w₁ w₂ to mostSymbols a b) e lines)) closes;
     }
 
 -- ---- a turn of the loop: the symbol at place i has been written

@@ -7,6 +7,7 @@ use mathlib.Core.Path.{_≡_, refl, sym, ap, _∙_}
 use mathlib.Core.Bool.{Bool, true, false, cond, _&&_, _||_, and-comm, or-false, false≢true}
 use mathlib.Core.List.{List, [], _∷_, _++_, reverse, reverse-reverse, append-assoc, reverse-append, reverseAux-eq}
 use Prim.Native.Nat.{ℕ, zero, suc, pred, _+_, _≤_}
+use Prim.Native.Char.{code}
 use native.Mathlib.Omega.{arith}
 use lib.Dec.{eqb}
 use lib.ListN.{length, getD, take, drop, length-append}
@@ -71,9 +72,9 @@ line-starts before x s =
     go false true c = refl
     go false false c = refl
 
-swap-line : (before b : ℕ) (s : List ℕ) → swap 10 s ≡ inner 10 s → swap b (32 ∷ 92 ∷ 10 ∷ s) ≡ inner before (32 ∷ 92 ∷ 10 ∷ s)
+swap-line : (before b : ℕ) (s : List ℕ) → swap (code "\n") s ≡ inner (code "\n") s → swap b (code " " ∷ code "\\" ∷ code "\n" ∷ s) ≡ inner before (code " " ∷ code "\\" ∷ code "\n" ∷ s)
 unfolding sweep inner
-swap-line before b s e = ap (λ t. 32 ∷ 92 ∷ 92 ∷ 10 ∷ t) e
+swap-line before b s e = ap (λ t. (code " ") ∷ code "\\" ∷ code "\\" ∷ code "\n" ∷ t) e
 
 -- what is known of texts that are shorter
 abbrev Shorter : ℕ → Type 0
@@ -84,12 +85,12 @@ swap-break :
 swap-break n before b x [] h e shorter = absurd (false≢true e)
 swap-break n before b x (y ∷ []) h e shorter = absurd (false≢true e)
 swap-break n before b x (y ∷ z ∷ s) h e shorter =
-    let p = and-parts (eqb z 10 && eqb y 92) (eqb x 32) e in
-    let q = and-parts (eqb z 10) (eqb y 92) (p .0) in
-    let l : _≡_ {A = List ℕ} (x ∷ y ∷ z ∷ s) (32 ∷ 92 ∷ 10 ∷ s) =
-    ap (λ k. k ∷ y ∷ z ∷ s) (eqb-true x 32 (p .1)) ∙ ap (λ k. 32 ∷ k ∷ z ∷ s) (eqb-true y 92 (q .1)) ∙ ap (λ k. 32 ∷ 92 ∷ k ∷ s) (eqb-true z 10 (q .0))
+    let p = and-parts (eqb z (code "\n") && eqb y (code "\\")) (eqb x (code " ")) e in
+    let q = and-parts (eqb z (code "\n")) (eqb y (code "\\")) (p .0) in
+    let l : _≡_ {A = List ℕ} (x ∷ y ∷ z ∷ s) (code " " ∷ code "\\" ∷ code "\n" ∷ s) =
+    ap (λ k. k ∷ y ∷ z ∷ s) (eqb-true x (code " ") (p .1)) ∙ ap (λ k. (code " ") ∷ k ∷ z ∷ s) (eqb-true y (code "\\") (q .1)) ∙ ap (λ k. (code " ") ∷ code "\\" ∷ k ∷ s) (eqb-true z (code "\n") (q .0))
     in
-    ap (swap b) l ∙ swap-line before b s (shorter 10 10 s (omega arith) refl) ∙ sym (ap (inner before) l)
+    ap (swap b) l ∙ swap-line before b s (shorter (code "\n") (code "\n") s (omega arith) refl) ∙ sym (ap (inner before) l)
 
 swap-copy :
     (n before b x : ℕ) (s : List ℕ) → length s ≤ n → Clear before (x ∷ s) → starts (bytes " \\\n") (x ∷ s) ≡ false → Shorter n
@@ -130,7 +131,7 @@ last-two : (y x : ℕ) (u : List ℕ) → lastBreak (u ++ y ∷ x ∷ []) ≡ u 
 last-two y x u = ap (λ b. cond b (take (pred (length (u ++ y ∷ x ∷ []))) (u ++ y ∷ x ∷ []) ++ bytes "\\\\") (u ++ y ∷ x ∷ [])) ends-is ∙ go (is "\\" x) refl (is " " y)
   where
     ends-is : ends (bytes " \\") (u ++ y ∷ x ∷ []) ≡ is " " y && is "\\" x
-    ends-is = ap (starts (92 ∷ 32 ∷ [])) (reverse-append u (y ∷ x ∷ []))
+    ends-is = ap (starts (code "\\" ∷ code " " ∷ [])) (reverse-append u (y ∷ x ∷ []))
 
     cut : take (pred (length (u ++ y ∷ x ∷ []))) (u ++ y ∷ x ∷ []) ≡ u ++ y ∷ []
     cut =
@@ -144,7 +145,7 @@ last-two y x u = ap (λ b. cond b (take (pred (length (u ++ y ∷ x ∷ []))) (u
         → cond (b && a) (take (pred (length (u ++ y ∷ x ∷ []))) (u ++ y ∷ x ∷ []) ++ bytes "\\\\") (u ++ y ∷ x ∷ []) ≡ u ++ y ∷ piece x (a && b)
     go true e true =
         ap (λ t. t ++ bytes "\\\\") cut ∙ append-assoc u (y ∷ []) (bytes "\\\\")
-        ∙ ap (λ k. u ++ y ∷ k ∷ k ∷ []) (sym (eqb-true x 92 e))
+        ∙ ap (λ k. u ++ y ∷ k ∷ k ∷ []) (sym (eqb-true x (code "\\") e))
     go true e false = refl
     go false e true = refl
     go false e false = refl

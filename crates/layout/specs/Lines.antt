@@ -6,6 +6,7 @@ use mathlib.Core.Path.{_≡_, refl, sym, ap, _∙_}
 use mathlib.Core.Bool.{Bool, true, false, cond, _&&_, _||_, false≢true}
 use mathlib.Core.List.{List, [], _∷_, _++_, reverse, reverse-cons, reverse-append}
 use Prim.Native.Nat.{ℕ, zero, suc, _+_, _-_, _≤_}
+use Prim.Native.Char.{code}
 use native.Mathlib.Nat.{not-suc-le-zero}
 use native.Mathlib.Omega.{arith}
 use lib.ListN.{length, getD, drop, length-take, length-drop}
@@ -82,7 +83,7 @@ blank-single : (before x : ℕ) (s : List ℕ) → blank x ≡ true → breaks b
 blank-single before x s e = go (is "\\" x) refl
   where
     go : (t : Bool) → is "\\" x ≡ t → t && (is " " before && (is "\n" (head s) || empty s)) ≡ false
-    go true f = absurd (false≢true (ap blank (sym (eqb-true x 92 f)) ∙ e))
+    go true f = absurd (false≢true (ap blank (sym (eqb-true x (code "\\") f)) ∙ e))
     go false f = refl
 
 with-breaks-lead : (before : ℕ) (s : List ℕ) (a : ℕ) → a ≤ length s → dropWhile blank s ≡ drop a s → dropWhile blank (withBreaks before s) ≡ withBreaks (getD (before ∷ s) a 0) (drop a s)

@@ -7,7 +7,7 @@ ghost use Prim.Native.Nat.{_≤_, _<_};
 ghost use mathlib.Core.Path.{_≡_};
 ghost use lib.ListN.{length};
 ghost use Rattle.spec.specs.Symbols.{bytes, ends};
-ghost use Rattle.spec.specs.Result.{stage};
+ghost use Rattle.spec.specs.Result.{stage, mostSymbols};
 ghost use Rattle.spec.specs.Finish.{hasAlignment, hasLineBreaks, convertAlignment};
 ghost use Rattle.text.specs.Writer.{Room, Appended, Regions};
 ghost use Rattle.text.specs.Stage.{Ready, Staged};
@@ -50,8 +50,8 @@ fn is_break(s: &[u8], i: usize) -> bool
 
 // Appends a symbol, once or twice.
 fn put_piece(work: &mut [u8], to: usize, count: usize, b: u8, twice: bool) -> usize
-    requires { ⌜ Room (now work) to 8192 count 2 ⌝ }
-    ensures { λ r. ⌜ Appended (now (work .entry)) (now (work .exit)) to 8192 count r (piece b twice) ⌝ }
+    requires { ⌜ Room (now work) to mostSymbols count 2 ⌝ }
+    ensures { λ r. ⌜ Appended (now (work .entry)) (now (work .exit)) to mostSymbols count r (piece b twice) ⌝ }
 {
     let once = text::put(work, to, text::CAP, count, b);
     if twice {
@@ -70,7 +70,7 @@ fn put_lines(
     start: usize,
     stop: usize,
 ) -> usize
-    requires { ⌜ Regions (now work) from n to 8192 count ⌝ }
+    requires { ⌜ Regions (now work) from n to mostSymbols count ⌝ }
     requires { ⌜ (start ≤ stop) × (stop ≤ n) ⌝ }
     ensures { λ r. ⌜ Lines (now (work .entry)) (now (work .exit)) from n to count r start stop ⌝ }
 {
@@ -96,22 +96,22 @@ fn trimmed(s: &[u8]) -> Span
 }
 
 fn put_begin(work: &mut [u8], to: usize) -> usize
-    requires { ⌜ Room (now work) to 8192 0 16 ⌝ }
-    ensures { λ r. ⌜ Appended (now (work .entry)) (now (work .exit)) to 8192 0 r (bytes "\\begin{aligned}\n") ⌝ }
+    requires { ⌜ Room (now work) to mostSymbols 0 16 ⌝ }
+    ensures { λ r. ⌜ Appended (now (work .entry)) (now (work .exit)) to mostSymbols 0 r (bytes "\\begin{aligned}\n") ⌝ }
 {
     text::put_all(work, to, text::CAP, 0, b"\\begin{aligned}\n")
 }
 
 fn put_end(work: &mut [u8], to: usize, count: usize) -> usize
-    requires { ⌜ Room (now work) to 8192 count 14 ⌝ }
-    ensures { λ r. ⌜ Appended (now (work .entry)) (now (work .exit)) to 8192 count r (bytes "\n\\end{aligned}") ⌝ }
+    requires { ⌜ Room (now work) to mostSymbols count 14 ⌝ }
+    ensures { λ r. ⌜ Appended (now (work .entry)) (now (work .exit)) to mostSymbols count r (bytes "\n\\end{aligned}") ⌝ }
 {
     text::put_all(work, to, text::CAP, count, b"\n\\end{aligned}")
 }
 
 // The text in the environment.
 fn put_aligned(work: &mut [u8], from: usize, n: usize, to: usize) -> usize
-    requires { ⌜ Regions (now work) from n to 8192 0 ⌝ }
+    requires { ⌜ Regions (now work) from n to mostSymbols 0 ⌝ }
     ensures { λ r. ⌜ Aligned (now (work .entry)) (now (work .exit)) from n to r ⌝ }
 {
     let end = from + n;

@@ -7,7 +7,7 @@ use text_symbols::Class;
 ghost use mathlib.Core.Path.{_≡_};
 ghost use mathlib.Core.List.{reverse};
 ghost use Rattle.spec.specs.Symbols.{bytes, starts};
-ghost use Rattle.spec.specs.Result.{stage};
+ghost use Rattle.spec.specs.Result.{stage, mostSymbols};
 ghost use Rattle.spec.specs.Finish.{atomCommands, oneOf, spacing, gap, dropThinSpaceAfterCommands};
 ghost use Rattle.text_symbols.specs.Parts.{part};
 ghost use Rattle.text.specs.Writer.{Room, Appended, Regions};
@@ -62,8 +62,8 @@ fn is_gap(s: &[u8]) -> bool
 
 // Appends a thin space, or nothing.
 fn put_gap(work: &mut [u8], to: usize, count: usize, keeps: bool) -> usize
-    requires { ⌜ Room (now work) to 8192 count 2 ⌝ }
-    ensures { λ r. ⌜ Appended (now (work .entry)) (now (work .exit)) to 8192 count r (gapIf keeps) ⌝ }
+    requires { ⌜ Room (now work) to mostSymbols count 2 ⌝ }
+    ensures { λ r. ⌜ Appended (now (work .entry)) (now (work .exit)) to mostSymbols count r (gapIf keeps) ⌝ }
 {
     if keeps {
         return text::put_all(work, to, text::CAP, count, b"\\;");
@@ -73,8 +73,8 @@ fn put_gap(work: &mut [u8], to: usize, count: usize, keeps: bool) -> usize
 
 // Writes the `n` symbols at `from` to `to`, thin spaces dropped. `start` is behind the last thin space.
 fn drop_gaps(work: &mut [u8], from: usize, n: usize, to: usize) -> usize
-    requires { ⌜ Regions (now work) from n to 8192 0 ⌝ }
-    ensures { λ r. ⌜ Appended (now (work .entry)) (now (work .exit)) to 8192 0 r (dropThinSpaceAfterCommands (part from n (now (work .entry)))) ⌝ }
+    requires { ⌜ Regions (now work) from n to mostSymbols 0 ⌝ }
+    ensures { λ r. ⌜ Appended (now (work .entry)) (now (work .exit)) to mostSymbols 0 r (dropThinSpaceAfterCommands (part from n (now (work .entry)))) ⌝ }
 {
     let end = from + n;
     let mut count = 0;

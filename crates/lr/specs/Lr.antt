@@ -5,6 +5,7 @@ use mathlib.Core.Bool.{Bool, true, false, _&&_, _||_}
 use mathlib.Core.List.{List, _∷_, _++_}
 use mathlib.Core.Option.{Option, none, some}
 use Prim.Native.Nat.{ℕ, pred, _+_, _-_, _*_, _≤_, _<_}
+use Prim.Native.Char.{code}
 use native.Mathlib.Decide.{decLt}
 use native.Mathlib.Omega.{arith}
 use lib.Dec.{eqb}
@@ -55,8 +56,8 @@ delimiter-is x = go (is "(" x) refl (is "|" x) refl (is "[" x) refl (is "{" x) r
     go false e false f false g true h = rw (e, f, g, h)
     go false e false f false g false h = rw (e, f, g, h)
 
-pub no-delimiter : (x : ℕ) → (x ≡ 40 → ⊥) → (x ≡ 124 → ⊥) → (x ≡ 91 → ⊥) → (x ≡ 123 → ⊥) → delimiters x ≡ none
-no-delimiter x a b c d = rw (ne-eqb x 40 a, ne-eqb x 124 b, ne-eqb x 91 c, ne-eqb x 123 d, delimiters)
+pub no-delimiter : (x : ℕ) → (x ≡ code "(" → ⊥) → (x ≡ code "|" → ⊥) → (x ≡ code "[" → ⊥) → (x ≡ code "{" → ⊥) → delimiters x ≡ none
+no-delimiter x a b c d = rw (ne-eqb x (code "(") a, ne-eqb x (code "|") b, ne-eqb x (code "[") c, ne-eqb x (code "{") d, delimiters)
 
 -- what stands between the first and the last symbol inside
 pub middle : (inside k : ℕ) (w : List ℕ) → inside + k ≤ length w → part (inside + 1) (k - 2) w ≡ take (pred (pred (length (part inside k w)))) (past (part inside k w))
@@ -78,10 +79,10 @@ middle inside k w h = go (decLt 1 k)
 pub sized-by-first :
     {w w′ : List ℕ} {to count count′ : ℕ} (inside k m first code : ℕ) {a b : List ℕ} → inside + k ≤ length w → m ≡ k - 2 → first ≡ code
     → delimiters code ≡ some (record { left = a; right = b })
-    → Appended w w′ to 8192 count count′ (a ++ part (inside + 1) m w ++ b)
-    → Appended w w′ to 8192 count count′ (sizedBy (part inside k w) (delimiters first))
+    → Appended w w′ to mostSymbols count count′ (a ++ part (inside + 1) m w ++ b)
+    → Appended w w′ to mostSymbols count count′ (sizedBy (part inside k w) (delimiters first))
 sized-by-first {w} {w′} {to} {count} {count′} inside k m first code {a} {b} h few same is-some appended =
-    subst (λ t. Appended w w′ to 8192 count count′ t)
+    subst (λ t. Appended w w′ to mostSymbols count count′ t)
     (ap (λ t. a ++ t ++ b) (ap (λ j. part (inside + 1) j w) few ∙ middle inside k w h) ∙ ap (sizedBy (part inside k w)) (sym is-some) ∙ ap (λ x. sizedBy (part inside k w) (delimiters x)) (sym same))
     appended
 
@@ -117,11 +118,11 @@ pub record Bared (w w′ : List ℕ) (from n to : ℕ) : Type 0 where
   pub reaches : reached bareDelimiter lr 0 0 (part from n w) ≡ true
   pub out : List ℕ
   pub count : ℕ
-  pub appended : Appended w w′ to 8192 0 count out
+  pub appended : Appended w w′ to mostSymbols 0 count out
 
 pub record Lengthened (w w′ : List ℕ) (from n to count : ℕ) : Type 0 where
   pub reaches : reached bareDelimiter lr 0 0 (part from n w) ≡ false
-  pub appended : Appended w w′ to 8192 0 count (sweep lr 0 0 (part from n w))
+  pub appended : Appended w w′ to mostSymbols 0 count (sweep lr 0 0 (part from n w))
 
 abbrev pub EndedBy : List ℕ → List ℕ → ℕ → ℕ → ℕ → Ended → Type 0
 EndedBy w w′ from n to (Length count) = Lengthened w w′ from n to count

@@ -7,6 +7,8 @@ use text_search::Found;
 ghost use Prim.Native.Nat.{_+_, _≤_, _<_};
 ghost use mathlib.Core.Path.{_≡_};
 ghost use lib.ListN.{length};
+ghost use Rattle.spec.specs.Result.{mostSymbols};
+ghost use Rattle.text_search.specs.Half.{halfWork};
 ghost use Rattle.spec.specs.Finish.{delimiters, convertLr};
 ghost use Rattle.text_symbols.specs.Parts.{part};
 ghost use Rattle.text.specs.Writer.{Room, Appended, Apart, Regions};
@@ -22,7 +24,7 @@ pub enum Ended {
 
 // The length of what stands inside the `lr(` that the text begins with.
 fn lr_at(s: &[u8]) -> Found
-    requires { ⌜ length (now s) ≤ 16384 ⌝ }
+    requires { ⌜ length (now s) ≤ halfWork ⌝ }
     ensures { λ r. ⌜ Called lrName (now (s .entry)) r ⌝ }
 {
     call_rewriting::call_at(s, b"lr(")
@@ -36,10 +38,10 @@ fn is_delimiter(b: u8) -> bool
 
 // Appends what is written for the `k` symbols at `inside`, by their first. They lie before a closing parenthesis.
 fn put_sized(work: &mut [u8], to: usize, count: usize, first: u8, inside: usize, k: usize) -> usize
-    requires { ⌜ Room (now work) to 8192 count (k + 64) ⌝ }
+    requires { ⌜ Room (now work) to mostSymbols count (k + 64) ⌝ }
     requires { ⌜ inside + k < length (now work) ⌝ }
-    requires { ⌜ Apart inside (k + 1) to 8192 ⌝ }
-    ensures { λ r. ⌜ Appended (now (work .entry)) (now (work .exit)) to 8192 count r (sizedBy (part inside k (now (work .entry))) (delimiters first)) ⌝ }
+    requires { ⌜ Apart inside (k + 1) to mostSymbols ⌝ }
+    ensures { λ r. ⌜ Appended (now (work .entry)) (now (work .exit)) to mostSymbols count r (sizedBy (part inside k (now (work .entry))) (delimiters first)) ⌝ }
 {
     let middle = text::saturating_sub(k, 2);
     if first == b'(' {
@@ -91,7 +93,7 @@ fn put_sized(work: &mut [u8], to: usize, count: usize, first: u8, inside: usize,
 
 // Writes the `n` symbols at `from` to `to`, each `lr(` rewritten.
 fn rewrite_lr(work: &mut [u8], from: usize, n: usize, to: usize) -> Ended
-    requires { ⌜ Regions (now work) from n to 8192 0 ⌝ }
+    requires { ⌜ Regions (now work) from n to mostSymbols 0 ⌝ }
     ensures { λ r. ⌜ EndedBy (now (work .entry)) (now (work .exit)) from n to r ⌝ }
 {
     let end = from + n;

@@ -6,12 +6,13 @@ use text_symbols::Class;
 ghost use mathlib.Core.Path.{_≡_};
 ghost use Prim.Native.Nat.{_≤_};
 ghost use lib.ListN.{length};
+ghost use Rattle.spec.specs.Pipeline.{leastWork};
 ghost use Rattle.spec.specs.Symbols.{foreign, any};
 ghost use Rattle.math_conv.specs.Answer.{Admits};
 
 // The formula as the first text of the work buffer, or its refusal.
 pub fn admit(work: &mut [u8], formula: &[u8], table: &[u8]) -> Progress
-    requires { ⌜ 32768 ≤ length (now work) ⌝ }
+    requires { ⌜ leastWork ≤ length (now work) ⌝ }
     ensures { λ r. ⌜ Admits (now (formula .entry)) (now (table .entry)) (now (work .entry)) (now (work .exit)) r ⌝ }
 {
     if text::MOST_FORMULA < formula.len() {

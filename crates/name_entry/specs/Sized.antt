@@ -14,6 +14,7 @@ use native.Mathlib.Omega.{arith}
 use lib.Dec.{ltb}
 use lib.ListN.{length, drop, length-take}
 use borrow.Author.Tests.{lt-ltb, le-ltb}
+use Rattle.text_search.specs.Half.{halfWork}
 use Rattle.spec.specs.Symbols.{find}
 use Rattle.spec.specs.Sweep.{Rule, sweep}
 use Rattle.spec.specs.Laws.Sweep.{Waits, sweep-absent}
@@ -100,7 +101,7 @@ module _ {w : List ℕ} {p : Progress} {pattern : List ℕ} {r : Due} (extra : �
     within-text = subst (FitsWithBlocks extra) (pattern-occurs awaited e .text) within
 
     pub applied-written :
-        {w′ : List ℕ} {count : ℕ} {p′ : Progress} (f : List ℕ → List ℕ) → Appended w w′ to 8192 0 count (f (part from n w)) → p′ ≡ judgedWithin extra to count
+        {w′ : List ℕ} {count : ℕ} {p′ : Progress} (f : List ℕ → List ℕ) → Appended w w′ to mostSymbols 0 count (f (part from n w)) → p′ ≡ judgedWithin extra to count
         → Applied w w′ p p′ extra pattern f
     applied-written {w′} {count} {p′} f a j =
         let right = subst (λ q. (shown q w′ ≡ sized extra f (part from n w)) × Placed q × FitsWithBlocks extra q) (sym j) (judged-right (decLt mostSymbols (count + extra))) in
@@ -151,7 +152,7 @@ pub record Remaining (w₀ w : List ℕ) (p₀ p : Progress) (extra : ℕ) (f g 
   pub rest : (shown p w then g) ≡ (shown p₀ w₀ then f)
   pub long : length w ≡ length w₀
   pub placed : Placed p
-  pub beyond : drop 16384 w ≡ drop 16384 w₀
+  pub beyond : drop halfWork w ≡ drop halfWork w₀
   pub within : FitsWithBlocks extra p
 
 pub remaining-none : {w : List ℕ} {p : Progress} {extra : ℕ} (f : List ℕ → Result (List ℕ)) → Ready w p → FitsWithBlocks extra p → Remaining w w p p extra f f

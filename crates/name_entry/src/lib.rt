@@ -16,6 +16,8 @@ ghost use mathlib.Core.Bool.{cond};
 ghost use mathlib.Core.List.{_∷_};
 ghost use Prim.Native.Nat.{_≤_};
 ghost use lib.ListN.{length, getD, drop};
+ghost use Rattle.spec.specs.Result.{mostSymbols};
+ghost use Rattle.text_search.specs.Half.{halfWork};
 ghost use Rattle.spec.specs.Sweep.{sweep};
 ghost use Rattle.text_symbols.specs.Parts.{part};
 ghost use Rattle.text.specs.Writer.{Room, Appended, Regions};
@@ -25,7 +27,7 @@ ghost use Rattle.name_entry.specs.Sized.{FitsWithBlocks, judgedWithin, A
 
 // Whether the pattern stands at place i, and what is around it allows it to be taken.
 fn stands(s: &[u8], i: usize, bounds: Bounds, pattern: &[u8]) -> bool
-    requires { ⌜ (i ≤ length (now s)) × (length (now s) ≤ 16384) ⌝ }
+    requires { ⌜ (i ≤ length (now s)) × (length (now s) ≤ halfWork) ⌝ }
     ensures { λ r. ⌜ r ≡ standing bounds (now (pattern .entry)) (getD (0 ∷ now (s .entry)) i 0) (drop i (now (s .entry))) ⌝ }
 {
     if !text_search::starts_with(&s[i..], pattern) {
@@ -37,7 +39,7 @@ fn stands(s: &[u8], i: usize, bounds: Bounds, pattern: &[u8]) -> bool
 
 // Whether a pattern that stands at place i is to be spared.
 fn is_spared(s: &[u8], i: usize, bounds: Bounds, pattern: &[u8]) -> bool
-    requires { ⌜ (i ≤ length (now s)) × ((length (now s) ≤ 16384) × (length (now pattern) ≤ 1024)) ⌝ }
+    requires { ⌜ (i ≤ length (now s)) × ((length (now s) ≤ halfWork) × (length (now pattern) ≤ 1024)) ⌝ }
     ensures { λ r. ⌜ r ≡ spares bounds (now (pattern .entry)) (getD (0 ∷ now (s .entry)) i 0) (drop i (now (s .entry))) ⌝ }
 {
     let behind = text_search::symbol(s, i + pattern.len());
@@ -53,9 +55,9 @@ fn put_entry(
     pattern: &[u8],
     fresh: &[u8],
 ) -> usize
-    requires { ⌜ Room (now work) to 8192 count 1024 ⌝ }
+    requires { ⌜ Room (now work) to mostSymbols count 1024 ⌝ }
     requires { ⌜ EntryTextsFit (now pattern) (now fresh) ⌝ }
-    ensures { λ r. ⌜ Appended (now (work .entry)) (now (work .exit)) to 8192 count r (cond spared (now (pattern .entry)) (now (fresh .entry))) ⌝ }
+    ensures { λ r. ⌜ Appended (now (work .entry)) (now (work .exit)) to mostSymbols count r (cond spared (now (pattern .entry)) (now (fresh .entry))) ⌝ }
 {
     if spared {
         return text::put_all(work, to, text::CAP, count, pattern);
@@ -73,9 +75,9 @@ fn rewrite(
     pattern: &[u8],
     fresh: &[u8],
 ) -> usize
-    requires { ⌜ Regions (now work) from n to 8192 0 ⌝ }
+    requires { ⌜ Regions (now work) from n to mostSymbols 0 ⌝ }
     requires { ⌜ EntryTextsFit (now pattern) (now fresh) ⌝ }
-    ensures { λ r. ⌜ Appended (now (work .entry)) (now (work .exit)) to 8192 0 r (sweep (bounded bounds (now (pattern .entry)) (now (fresh .entry))) 0 0 (part from n (now (work .entry)))) ⌝ }
+    ensures { λ r. ⌜ Appended (now (work .entry)) (now (work .exit)) to mostSymbols 0 r (sweep (bounded bounds (now (pattern .entry)) (now (fresh .entry))) 0 0 (part from n (now (work .entry)))) ⌝ }
 {
     let end = from + n;
     let mut count = 0;
@@ -95,7 +97,7 @@ fn rewrite(
 
 // The finished text of `count` symbols at `to`, or number 5.
 fn finished(to: usize, count: usize, extra: usize) -> Progress
-    requires { ⌜ extra ≤ 8192 ⌝ }
+    requires { ⌜ extra ≤ mostSymbols ⌝ }
     ensures { λ r. ⌜ r ≡ judgedWithin extra to count ⌝ }
 {
     if text::CAP - extra < count {

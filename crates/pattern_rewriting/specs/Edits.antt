@@ -13,6 +13,7 @@ use lib.Dec.{ltb}
 use lib.ListN.{length, take, drop, length-drop}
 use lib.Seq.{drop-drop, length-take-le}
 use borrow.Author.Tests.{lt-ltb, le-ltb}
+use Rattle.text_search.specs.Half.{halfWork}
 use Rattle.spec.specs.Symbols.{bytes, alnum, past, until, inside, dropWhile, starts}
 use Rattle.spec.specs.Sweep.{Turn, Rule, taken, kept, replacing}
 use Rattle.spec.specs.Closing.{findMatchingParen, findMatchingBrace}
@@ -82,7 +83,7 @@ pub record PatternTextsFit (pattern left : List ℕ) : Type 0 where
 pub record PatternMet (pattern s : List ℕ) : Type 0 where
   pub starts-with : starts pattern s ≡ true
   pub positive : 0 < length pattern
-  pub short : length s ≤ 16384
+  pub short : length s ≤ halfWork
 
 -- ---- without its pattern each rule copies
 pub rule-waits : (kind : PatternKind) (pattern left : List ℕ) → Waits pattern (patternRule kind pattern left)

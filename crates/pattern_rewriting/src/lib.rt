@@ -9,7 +9,7 @@ use text_symbols::Span;
 ghost use Prim.Native.Nat.{_+_, _-_, _≤_};
 ghost use mathlib.Core.List.{_++_};
 ghost use lib.ListN.{length};
-ghost use Rattle.spec.specs.Result.{stage};
+ghost use Rattle.spec.specs.Result.{stage, mostSymbols};
 ghost use Rattle.spec.specs.Sweep.{sweep, replace};
 ghost use Rattle.spec.specs.Words.{convertSqrt};
 ghost use Rattle.text_symbols.specs.Parts.{part};
@@ -39,8 +39,8 @@ pub enum Edit {
 
 // Appends a closing brace, or nothing.
 fn put_ending(work: &mut [u8], to: usize, count: usize, closed: bool) -> usize
-    requires { ⌜ Room (now work) to 8192 count 1 ⌝ }
-    ensures { λ r. ⌜ Appended (now (work .entry)) (now (work .exit)) to 8192 count r (ending closed) ⌝ }
+    requires { ⌜ Room (now work) to mostSymbols count 1 ⌝ }
+    ensures { λ r. ⌜ Appended (now (work .entry)) (now (work .exit)) to mostSymbols count r (ending closed) ⌝ }
 {
     if closed {
         return text::put(work, to, text::CAP, count, b'}');
@@ -58,10 +58,10 @@ fn put_edit(
     k: usize,
     closed: bool,
 ) -> usize
-    requires { ⌜ Room (now work) to 8192 count (length (now left) + (k + 1)) ⌝ }
+    requires { ⌜ Room (now work) to mostSymbols count (length (now left) + (k + 1)) ⌝ }
     requires { ⌜ inside + k ≤ length (now work) ⌝ }
-    requires { ⌜ Apart inside k to 8192 ⌝ }
-    ensures { λ r. ⌜ Appended (now (work .entry)) (now (work .exit)) to 8192 count r (now (left .entry) ++ part inside k (now (work .entry)) ++ ending closed) ⌝ }
+    requires { ⌜ Apart inside k to mostSymbols ⌝ }
+    ensures { λ r. ⌜ Appended (now (work .entry)) (now (work .exit)) to mostSymbols count r (now (left .entry) ++ part inside k (now (work .entry)) ++ ending closed) ⌝ }
 {
     let opened = text::put_all(work, to, text::CAP, count, left);
     let filled = text::copy(work, inside, k, to, text::CAP, opened);
@@ -78,9 +78,9 @@ pub fn rewrite(
     pattern: &[u8],
     left: &[u8],
 ) -> usize
-    requires { ⌜ Regions (now work) from n to 8192 0 ⌝ }
+    requires { ⌜ Regions (now work) from n to mostSymbols 0 ⌝ }
     requires { ⌜ PatternTextsFit (now pattern) (now left) ⌝ }
-    ensures { λ r. ⌜ Appended (now (work .entry)) (now (work .exit)) to 8192 0 r (sweep (patternRule kind (now (pattern .entry)) (now (left .entry))) 0 0 (part from n (now (work .entry)))) ⌝ }
+    ensures { λ r. ⌜ Appended (now (work .entry)) (now (work .exit)) to mostSymbols 0 r (sweep (patternRule kind (now (pattern .entry)) (now (left .entry))) 0 0 (part from n (now (work .entry)))) ⌝ }
 {
     let end = from + n;
     let mut count = 0;

@@ -8,6 +8,7 @@ ghost use mathlib.Core.Bool.{true};
 ghost use mathlib.Core.List.{List};
 ghost use Prim.Native.Nat.{ℕ, _≤_, _<_};
 ghost use lib.ListN.{length};
+ghost use Rattle.text_search.specs.Half.{halfWork};
 ghost use Rattle.spec.specs.Sweep.{replacing};
 ghost use Rattle.spec.specs.Words.{parenToBrace};
 ghost use Rattle.pattern_rewriting.specs.Edits.{Edited, PatternMet, patternRule, wrapTextBy, wrapMulticharBy};
@@ -74,7 +75,7 @@ fn literal(s: &[u8], pattern: &[u8]) -> Edit
 
 // What is done with the text's first symbol, or with more of them.
 pub fn edit_at(s: &[u8], kind: PatternKind, pattern: &[u8]) -> Edit
-    requires { ⌜ (length (now s) ≤ 16384) × (0 < length (now pattern)) ⌝ }
+    requires { ⌜ (length (now s) ≤ halfWork) × (0 < length (now pattern)) ⌝ }
     ensures { λ r. ⌜ ((left : List ℕ) → Edited (patternRule kind (now (pattern .entry)) left) left (now (s .entry)) r) ⌝ }
 {
     if !text_search::starts_with(s, pattern) {

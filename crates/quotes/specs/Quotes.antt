@@ -7,6 +7,7 @@ use mathlib.Core.Path.{_≡_, refl, sym, ap, ap₂, _∙_, subst}
 use mathlib.Core.Bool.{Bool, true, false, cond, _||_}
 use mathlib.Core.List.{List, [], _∷_, _++_, reverse, reverseAux, reverseAux-eq, reverseAux-reverseAux-nil}
 use Prim.Native.Nat.{ℕ, zero, suc, _+_, _-_, _*_, _≤_, _<_}
+use Prim.Native.Char.{code}
 use native.Mathlib.Numerals.{add-one}
 use native.Mathlib.Omega.{arith}
 use lib.ListN.{length, getD, drop, length-drop, length-reverse, length-reverseAux, drop-of-length-le}
@@ -42,7 +43,7 @@ closingQuote gap = cond gap (bytes "}\\;") (bytes "}")
 
 -- the last symbol of what is appended when a quote is closed
 abbrev pub closingLast : Bool → ℕ
-closingLast gap = cond gap 59 125
+closingLast gap = cond gap (code ";") (code "}")
 
 pub record ClosedAt (s : List ℕ) (i : ℕ) (r : After) : Type 0 where
   pub gap : r .gap ≡ gapBehind (drop i s)
@@ -117,7 +118,7 @@ quotes-close : (o s : List ℕ) (x : ℕ) → is "\"" x ≡ true → quotes true
 unfolding quotes
 quotes-close o s x e = rw (e, quotes)
 
-quotes-end : (q : Bool) (o : List ℕ) → quotes q 0 o [] ≡ cond q (125 ∷ o) o
+quotes-end : (q : Bool) (o : List ℕ) → quotes q 0 o [] ≡ cond q (code "}" ∷ o) o
 unfolding quotes
 quotes-end q o = refl
 
@@ -160,13 +161,13 @@ here :
     → quotes quoted 0 (q .out) (getD s i 0 ∷ drop (i + 1) s) ≡ rest → reverse rest ≡ convertTextQuotes s
 here {s} {i = i} {quoted = quoted} q more e = ap reverse (sym e ∙ ap (quotes quoted 0 (q .out)) (sym (drop-step s i more))) ∙ q .same-as-whole
 
-closed-by : (b : Bool) (o : List ℕ) → reverseAux (cond b (bytes "\\;") []) (125 ∷ o) ≡ reverseAux (closingQuote b) o
+closed-by : (b : Bool) (o : List ℕ) → reverseAux (cond b (bytes "\\;") []) (code "}" ∷ o) ≡ reverseAux (closingQuote b) o
 closed-by true o = refl
 closed-by false o = refl
 
 closing-ends : (b : Bool) (o : List ℕ) → Ends (reverseAux (closingQuote b) o) (endIn (closingLast b))
-closing-ends true o = ends-new 59 (92 ∷ 125 ∷ o) refl
-closing-ends false o = ends-new 125 o refl
+closing-ends true o = ends-new (code ";") (code "\\" ∷ code "}" ∷ o) refl
+closing-ends false o = ends-new (code "}") o refl
 
 closing-short : (b : Bool) → length (closingQuote b) ≤ 3
 closing-short true = omega arith
@@ -181,7 +182,7 @@ module _ {s w₀ w w′ : List ℕ} {to cap count count′ i : ℕ} {t : TextEnd
       put-more (q .out) (getD s i 0 ∷ []) fits (q .wrote) (q .counted) a (here q more (quotes-plain quoted (q .out) (drop (i + 1) s) (getD s i 0) e)) (ends-step (getD s i 0) (q .ends)) (omega arith)
 
   module _ (quote : is "\"" (getD s i 0) ≡ true) where
-    pub quoting-open : Quoting s w₀ w to cap count false t i → Appended w w′ to cap (keptCount count t) count′ (openingQuote t) → Quoting s w₀ w′ to cap count′ true (endIn 123) (i + 1)
+    pub quoting-open : Quoting s w₀ w to cap count false t i → Appended w w′ to cap (keptCount count t) count′ (openingQuote t) → Quoting s w₀ w′ to cap count′ true (endIn (code "{")) (i + 1)
     quoting-open q a = go (gapAt t) refl a
       where
         turn : reverse (quotes true 0 (openQuote (q .out)) (drop (i + 1) s)) ≡ convertTextQuotes s
@@ -192,19 +193,19 @@ module _ {s w₀ w w′ : List ℕ} {to cap count count′ i : ℕ} {t : TextEnd
             ap₂ (λ b l. reverseAux (bytes "\\text{") (cond b (reverseAux (bytes "\\;") l) (q .out))) (gap-before (q .ends) ∙ e) (q .ends .trimmed)
 
         go : (b : Bool) → gapAt t ≡ b → Appended w w′ to cap (cond b (count - t .blanks) count) count′ (cond b (bytes "\\;\\text{") (bytes "\\text{"))
-            → Quoting s w₀ w′ to cap count′ true (endIn 123) (i + 1)
+            → Quoting s w₀ w′ to cap count′ true (endIn (code "{")) (i + 1)
         go true e a =
             let n = a .counted in let l = q .bounded in let f = q .ends .few in let c = q .counted in
             let o = drop (t .blanks) (q .out) in let d = length-drop (t .blanks) (q .out) in
             put-more o (bytes "\\;\\text{") fits
             (subst (λ l. Wrote w₀ w to cap l) (sym (reverse-drop (t .blanks) (q .out))) (wrote-less (length (q .out) - t .blanks) (q .wrote)))
             (omega arith) a (ap (λ l. reverse (quotes true 0 l (drop (i + 1) s))) (sym (opened true e)) ∙ turn)
-            (ends-new 123 (reverseAux (bytes "\\;\\text") o) refl) (omega arith)
+            (ends-new (code "{") (reverseAux (bytes "\\;\\text") o) refl) (omega arith)
         go false e a =
             let n = a .counted in let l = q .bounded in
             put-more (q .out) (bytes "\\text{") fits (q .wrote) (q .counted) a
             (ap (λ l. reverse (quotes true 0 l (drop (i + 1) s))) (sym (opened false e)) ∙ turn)
-            (ends-new 123 (reverseAux (bytes "\\text") (q .out)) refl) (omega arith)
+            (ends-new (code "{") (reverseAux (bytes "\\text") (q .out)) refl) (omega arith)
 
     pub quoting-close :
         {r : After} → Quoting s w₀ w to cap count true t i → ClosedAt s (i + 1) r → Appended w w′ to cap count count′ (closingQuote (r .gap))
@@ -215,27 +216,27 @@ module _ {s w₀ w w′ : List ℕ} {to cap count count′ i : ℕ} {t : TextEnd
         let turn = here q more (quotes-close (q .out) behind (getD s i 0) quote ∙ quotes-skip false (skipped behind) (closeQuote (q .out) behind) behind) in
         let rest : drop (skipped behind) behind ≡ drop (r .next) s = drop-drop (skipped behind) (i + 1) s ∙ ap (λ k. drop k s) (sym x) in
         let written : closeQuote (q .out) behind ≡ reverseAux (closingQuote (r .gap)) (q .out) =
-        ap (λ b. reverseAux (cond b (bytes "\\;") []) (125 ∷ q .out)) (sym (at .gap)) ∙ closed-by (r .gap) (q .out) in
+        ap (λ b. reverseAux (cond b (bytes "\\;") []) (code "}" ∷ q .out)) (sym (at .gap)) ∙ closed-by (r .gap) (q .out) in
         put-more (q .out) (closingQuote (r .gap)) fits (q .wrote) (q .counted) a
         (ap₂ (λ o l. reverse (quotes false 0 o l)) (sym written) (sym rest) ∙ turn)
         (closing-ends (r .gap) (q .out)) (omega arith)
 
 -- ---- the end: a quote that is still open is closed
 module _ {s w₀ w : List ℕ} {to cap count i : ℕ} {t : TextEnd} {quoted : Bool} (q : Quoting s w₀ w to cap count quoted t i) (done : length s ≤ i) where
-  last-turn : reverse (cond quoted (125 ∷ q .out) (q .out)) ≡ convertTextQuotes s
+  last-turn : reverse (cond quoted (code "}" ∷ q .out) (q .out)) ≡ convertTextQuotes s
   last-turn = ap reverse (sym (ap (quotes quoted 0 (q .out)) (drop-of-length-le s done) ∙ quotes-end quoted (q .out))) ∙ q .same-as-whole
 
   pub quoting-done : quoted ≡ false → Written w₀ w to cap count (convertTextQuotes s)
   quoting-done e =
-      let whole : reverse (q .out) ≡ convertTextQuotes s = ap (λ b. reverse (cond b (125 ∷ q .out) (q .out))) (sym e) ∙ last-turn in
+      let whole : reverse (q .out) ≡ convertTextQuotes s = ap (λ b. reverse (cond b (code "}" ∷ q .out) (q .out))) (sym e) ∙ last-turn in
       record { counted = q .counted ∙ sym (length-reverse (q .out)) ∙ ap length whole; wrote = subst (λ l. Wrote w₀ w to cap l) whole (q .wrote) }
 
-  pub quoting-unclosed : {w′ : List ℕ} {count′ : ℕ} → to + cap ≤ length w₀ → quoted ≡ true → Appended w w′ to cap count count′ (125 ∷ []) → Written w₀ w′ to cap count′ (convertTextQuotes s)
+  pub quoting-unclosed : {w′ : List ℕ} {count′ : ℕ} → to + cap ≤ length w₀ → quoted ≡ true → Appended w w′ to cap count count′ (code "}" ∷ []) → Written w₀ w′ to cap count′ (convertTextQuotes s)
   quoting-unclosed {w′} {count′} fits e a =
-      let whole : reverse (125 ∷ q .out) ≡ convertTextQuotes s = ap (λ b. reverse (cond b (125 ∷ q .out) (q .out))) (sym e) ∙ last-turn in
-      let n = a .counted in let c = q .counted in let l = length-reverse (125 ∷ q .out) in
-      let long : count′ ≡ length (reverse (125 ∷ q .out)) = omega arith in
+      let whole : reverse (code "}" ∷ q .out) ≡ convertTextQuotes s = ap (λ b. reverse (cond b (code "}" ∷ q .out) (q .out))) (sym e) ∙ last-turn in
+      let n = a .counted in let c = q .counted in let l = length-reverse (code "}" ∷ q .out) in
+      let long : count′ ≡ length (reverse (code "}" ∷ q .out)) = omega arith in
       record {
         counted = long ∙ ap length whole;
-        wrote = subst (λ l. Wrote w₀ w′ to cap l) (sym (reverse-put (125 ∷ []) (q .out)) ∙ whole) (wrote-more fits (c ∙ sym (length-reverse (q .out))) (q .wrote) a);
+        wrote = subst (λ l. Wrote w₀ w′ to cap l) (sym (reverse-put (code "}" ∷ []) (q .out)) ∙ whole) (wrote-more fits (c ∙ sym (length-reverse (q .out))) (q .wrote) a);
       }

@@ -7,7 +7,7 @@ use text_symbols::Class;
 ghost use mathlib.Core.Path.{_≡_};
 ghost use Prim.Native.Nat.{_≤_, _<_};
 ghost use lib.ListN.{length};
-ghost use Rattle.spec.specs.Result.{stage};
+ghost use Rattle.spec.specs.Result.{stage, mostSymbols};
 ghost use Rattle.spec.specs.Quotes.{convertTextQuotes};
 ghost use Rattle.text_symbols.specs.Parts.{part};
 ghost use Rattle.text.specs.Writer.{Room, Appended, Regions};
@@ -76,9 +76,9 @@ fn after_quote(s: &[u8], i: usize) -> After
 
 // Drops the blanks at the end where a thin space is written, and appends it and `\text{`.
 fn put_opening(work: &mut [u8], to: usize, count: usize, tail: TextEnd) -> usize
-    requires { ⌜ Room (now work) to 8192 count 8 ⌝ }
+    requires { ⌜ Room (now work) to mostSymbols count 8 ⌝ }
     requires { ⌜ tail .blanks ≤ count ⌝ }
-    ensures { λ r. ⌜ Appended (now (work .entry)) (now (work .exit)) to 8192 (keptCount count tail) r (openingQuote tail) ⌝ }
+    ensures { λ r. ⌜ Appended (now (work .entry)) (now (work .exit)) to mostSymbols (keptCount count tail) r (openingQuote tail) ⌝ }
 {
     if tail.gap() {
         return text::put_all(work, to, text::CAP, count - tail.blanks, b"\\;\\text{");
@@ -88,8 +88,8 @@ fn put_opening(work: &mut [u8], to: usize, count: usize, tail: TextEnd) -> usize
 
 // Appends `}` and perhaps a thin space.
 fn put_closing(work: &mut [u8], to: usize, count: usize, gap: bool) -> usize
-    requires { ⌜ Room (now work) to 8192 count 3 ⌝ }
-    ensures { λ r. ⌜ Appended (now (work .entry)) (now (work .exit)) to 8192 count r (closingQuote gap) ⌝ }
+    requires { ⌜ Room (now work) to mostSymbols count 3 ⌝ }
+    ensures { λ r. ⌜ Appended (now (work .entry)) (now (work .exit)) to mostSymbols count r (closingQuote gap) ⌝ }
 {
     if gap {
         return text::put_all(work, to, text::CAP, count, b"}\\;");
@@ -109,8 +109,8 @@ fn closing_last(gap: bool) -> u8
 
 // Writes the `n` symbols at `from` to `to`, quoted text rewritten. The result is the finished text's length.
 fn rewrite_quotes(work: &mut [u8], from: usize, n: usize, to: usize) -> usize
-    requires { ⌜ Regions (now work) from n to 8192 0 × (n ≤ 8192) ⌝ }
-    ensures { λ r. ⌜ Written (now (work .entry)) (now (work .exit)) to 8192 r (convertTextQuotes (part from n (now (work .entry)))) ⌝ }
+    requires { ⌜ Regions (now work) from n to mostSymbols 0 × (n ≤ mostSymbols) ⌝ }
+    ensures { λ r. ⌜ Written (now (work .entry)) (now (work .exit)) to mostSymbols r (convertTextQuotes (part from n (now (work .entry)))) ⌝ }
 {
     let end = from + n;
     let mut count = 0;

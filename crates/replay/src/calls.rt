@@ -10,6 +10,7 @@ ghost use mathlib.Core.List.{_++_};
 ghost use Prim.Native.Nat.{_≤_};
 ghost use lib.Dec.{eqb};
 ghost use lib.ListN.{length, drop, replicate};
+ghost use Rattle.spec.specs.Result.{mostSymbols};
 ghost use Rattle.replay.specs.Fits.{CaseFits};
 ghost use Rattle.replay.specs.Recorded.{Vouched, Agrees, recorded};
 
@@ -33,7 +34,7 @@ pub enum Difference {
 // All calls of a case; whether nothing differs.
 pub fn replay(i: usize, case: Case, formula: &[u8], table: &[u8], latex: &[u8], old: &[u8]) -> bool
     requires { ⌜ CaseFits case ⌝ }
-    requires { ⌜ length (now latex) ≤ 8192 ⌝ }
+    requires { ⌜ length (now latex) ≤ mostSymbols ⌝ }
     requires { ⌜ 40960 ≤ length (now old) ⌝ }
 {
     let is_right = replay_recorded(i, case, formula, table, latex, old);
@@ -75,7 +76,7 @@ fn replay_recorded(
 // With the output exactly full.
 fn replay_full(i: usize, case: Case, formula: &[u8], table: &[u8], latex: &[u8], old: &[u8]) -> bool
     requires { ⌜ CaseFits case ⌝ }
-    requires { ⌜ length (now latex) ≤ 8192 ⌝ }
+    requires { ⌜ length (now latex) ≤ mostSymbols ⌝ }
     requires { ⌜ 40960 ≤ length (now old) ⌝ }
 {
     let found = call(
@@ -103,7 +104,7 @@ fn replay_short(
     old: &[u8],
 ) -> bool
     requires { ⌜ CaseFits case ⌝ }
-    requires { ⌜ length (now latex) ≤ 8192 ⌝ }
+    requires { ⌜ length (now latex) ≤ mostSymbols ⌝ }
     requires { ⌜ 40960 ≤ length (now old) ⌝ }
 {
     if latex.len() == 0 {
@@ -153,7 +154,7 @@ fn replay_narrow(
 
 fn call(setting: Setting, formula: &[u8], table: &[u8], latex: &[u8], old: &[u8]) -> Difference
     requires { ⌜ setting .work ≤ 40960 ⌝ }
-    requires { ⌜ setting .output ≤ 8192 ⌝ }
+    requires { ⌜ setting .output ≤ mostSymbols ⌝ }
     requires { ⌜ 40960 ≤ length (now old) ⌝ }
 {
     let w = setting.work;

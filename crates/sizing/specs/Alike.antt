@@ -7,6 +7,7 @@ use mathlib.Core.List.{List, [], _∷_, _++_, reverse, reverseAux}
 use mathlib.Core.Option.{Option, none, some}
 use mathlib.Core.Logic.{_⊎_, inl, inr}
 use Prim.Native.Nat.{ℕ, zero, suc}
+use Prim.Native.Char.{code}
 use lib.Dec.{eqb}
 use lib.ListN.{length}
 use Rattle.spec.specs.Symbols.{bytes, all, starts, until}
@@ -15,7 +16,7 @@ use Rattle.spec.specs.Laws.Booleans.{and-parts}
 use Rattle.sizing.specs.Levels.{groupWith, groupStep, scriptStep, sizes}
 
 abbrev pub Closer : ℕ → Type 0
-Closer c = (c ≡ 41) ⊎ (c ≡ 93)
+Closer c = (c ≡ code ")") ⊎ (c ≡ code "]")
 
 pub data Alike : List ℕ → List ℕ → Type 0 where
   nothing : Alike [] []
@@ -32,15 +33,15 @@ alike-reverse (x ∷ u) a = alike-reverse u (more x a)
 
 -- ---- a word without closers is met in both or in neither
 abbrev free : List ℕ → Bool
-free w = all (λ k. not (eqb 41 k) && not (eqb 93 k)) w
+free w = all (λ k. not (eqb (code ")") k) && not (eqb (code "]") k)) w
 
-not-closer : (k c : ℕ) → not (eqb 41 k) && not (eqb 93 k) ≡ true → Closer c → eqb c k ≡ false
-not-closer k c e (inl f) = ap (λ d. eqb d k) f ∙ go (eqb 41 k) (and-parts (not (eqb 41 k)) (not (eqb 93 k)) e .0)
+not-closer : (k c : ℕ) → not (eqb (code ")") k) && not (eqb (code "]") k) ≡ true → Closer c → eqb c k ≡ false
+not-closer k c e (inl f) = ap (λ d. eqb d k) f ∙ go (eqb (code ")") k) (and-parts (not (eqb (code ")") k)) (not (eqb (code "]") k)) e .0)
   where
     go : (t : Bool) → not t ≡ true → t ≡ false
     go true e = sym e
     go false e = refl
-not-closer k c e (inr f) = ap (λ d. eqb d k) f ∙ go (eqb 93 k) (and-parts (not (eqb 41 k)) (not (eqb 93 k)) e .1)
+not-closer k c e (inr f) = ap (λ d. eqb d k) f ∙ go (eqb (code "]") k) (and-parts (not (eqb (code ")") k)) (not (eqb (code "]") k)) e .1)
   where
     go : (t : Bool) → not t ≡ true → t ≡ false
     go true e = sym e
@@ -49,9 +50,9 @@ not-closer k c e (inr f) = ap (λ d. eqb d k) f ∙ go (eqb 93 k) (and-parts (no
 starts-alike : (w : List ℕ) {o p : List ℕ} → free w ≡ true → Alike o p → starts w o ≡ starts w p
 starts-alike [] e a = refl
 starts-alike (k ∷ w) e nothing = refl
-starts-alike (k ∷ w) e (more x a) = ap (λ b. b && eqb x k) (starts-alike w (and-parts (not (eqb 41 k) && not (eqb 93 k)) (free w) e .1) a)
+starts-alike (k ∷ w) e (more x a) = ap (λ b. b && eqb x k) (starts-alike w (and-parts (not (eqb (code ")") k) && not (eqb (code "]") k)) (free w) e .1) a)
 starts-alike (k ∷ w) e (group {o} {p} c f) =
-    let n = not-closer k c (and-parts (not (eqb 41 k) && not (eqb 93 k)) (free w) e .0) f in
+    let n = not-closer k c (and-parts (not (eqb (code ")") k) && not (eqb (code "]") k)) (free w) e .0) f in
     ap (λ b. starts w o && b) n ∙ and-comm (starts w o) false ∙ sym (ap (λ b. starts w p && b) n ∙ and-comm (starts w p) false)
 
 sized-alike : {o p : List ℕ} → Alike o p → alreadySized o ≡ alreadySized p

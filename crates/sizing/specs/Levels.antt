@@ -7,6 +7,7 @@ use mathlib.Core.Bool.{Bool, true, false, cond, _&&_, _||_, false≢true}
 use mathlib.Core.List.{List, [], _∷_, _++_, reverseAux}
 use mathlib.Core.Option.{Option, none, some}
 use Prim.Native.Nat.{ℕ, zero, suc, pred, _-_, _≤_, _<_}
+use Prim.Native.Char.{code}
 use native.Mathlib.Nat.{not-suc-le-zero}
 use native.Mathlib.Omega.{arith}
 use lib.Dec.{eqb}
@@ -71,8 +72,8 @@ past-short (x ∷ s) = omega arith
 script-short : (x : ℕ) (s r : List ℕ) → scriptGroup x s ≡ some r → length r ≤ length s
 script-short x s r e = go (scriptSign x && is "{" (head s)) e
   where
-    go : (t : Bool) → _≡_ {A = Option (List ℕ)} (elim t [ true ↦ matchingDelimiter 123 125 s | false ↦ none ]) (some r) → length r ≤ length s
-    go true e = let b = close-behind-closer 123 125 0 (past s) r e .shorter in let p = past-short s in omega arith
+    go : (t : Bool) → _≡_ {A = Option (List ℕ)} (elim t [ true ↦ matchingDelimiter (code "{") (code "}") s | false ↦ none ]) (some r) → length r ≤ length s
+    go true e = let b = close-behind-closer (code "{") (code "}") 0 (past s) r e .shorter in let p = past-short s in omega arith
     go false e = let z : _≡_ {A = ℕ} 0 1 = cc in absurd (omega arith)
 
 -- ---- the parts of a step, by what has been found
@@ -194,11 +195,11 @@ script-suffix x s r e = go (scriptSign x && is "{" (head s)) e s refl
     again : (y : ℕ) (t : List ℕ) → length r ≤ length t → until t r ++ r ≡ t → until (y ∷ t) r ++ r ≡ y ∷ t
     again y t h e = let m : suc (length t) - length r ≡ suc (length t - length r) = omega arith in ap (λ k. take k (y ∷ t) ++ r) m ∙ ap (λ u. y ∷ u) e
 
-    go : (t : Bool) → _≡_ {A = Option (List ℕ)} (elim t [ true ↦ matchingDelimiter 123 125 s | false ↦ none ]) (some r) → (s′ : List ℕ) → s ≡ s′ → until (x ∷ s) r ++ r ≡ x ∷ s
+    go : (t : Bool) → _≡_ {A = Option (List ℕ)} (elim t [ true ↦ matchingDelimiter (code "{") (code "}") s | false ↦ none ]) (some r) → (s′ : List ℕ) → s ≡ s′ → until (x ∷ s) r ++ r ≡ x ∷ s
     go true e [] q =
-        let b = close-behind-closer 123 125 0 (past s) r e .shorter in let l = ap (λ (t : List ℕ). length (past t)) q in absurd (omega arith)
+        let b = close-behind-closer (code "{") (code "}") 0 (past s) r e .shorter in let l = ap (λ (t : List ℕ). length (past t)) q in absurd (omega arith)
     go true e (y ∷ t) q =
-        let b = close-behind-closer 123 125 0 t r (ap (λ (u : List ℕ). close 123 125 0 (past u)) (sym q) ∙ e) in
+        let b = close-behind-closer (code "{") (code "}") 0 t r (ap (λ (u : List ℕ). close (code "{") (code "}") 0 (past u)) (sym q) ∙ e) in
         let h = b .shorter in
         ap (λ u. until (x ∷ u) r ++ r) q ∙ again x (y ∷ t) (omega arith) (again y t (omega arith) (b .suffix)) ∙ ap (λ u. x ∷ u) (sym q)
     go false e s′ q = let z : _≡_ {A = ℕ} 0 1 = cc in absurd (omega arith)
@@ -216,11 +217,11 @@ with-openerless zero o s plain = refl
 with-openerless (suc k) o [] plain = refl
 with-openerless (suc k) o (x ∷ s) plain = script (scriptGroup x s) refl (with-openerless k)
   where
-    round : (eqb x 40 ≡ false) × (contains (bytes "(") s ≡ false)
-    round = or-neither (eqb x 40) (contains (bytes "(") s) (plain .round)
+    round : (eqb x (code "(") ≡ false) × (contains (bytes "(") s ≡ false)
+    round = or-neither (eqb x (code "(")) (contains (bytes "(") s) (plain .round)
 
-    square : (eqb x 91 ≡ false) × (contains (bytes "[") s ≡ false)
-    square = or-neither (eqb x 91) (contains (bytes "[") s) (plain .square)
+    square : (eqb x (code "[") ≡ false) × (contains (bytes "[") s ≡ false)
+    square = or-neither (eqb x (code "[")) (contains (bytes "[") s) (plain .square)
 
     closing-none : closing x ≡ none
     closing-none = rw (round .0, square .0, closing)

@@ -9,6 +9,7 @@ use mathlib.Core.List.{List, [], _∷_, _++_, reverse, reverseAux, reverse-appen
 use mathlib.Core.Option.{Option, none, some}
 use mathlib.Core.Logic.{inl, inr}
 use Prim.Native.Nat.{ℕ, suc, _+_, _-_, _≤_, _<_}
+use Prim.Native.Char.{code}
 use native.Mathlib.Omega.{arith}
 use lib.Dec.{eqb}
 use lib.ListN.{length, getD, take, drop, length-take, length-drop, length-reverse}
@@ -30,12 +31,12 @@ use Rattle.sizing.specs.declared.Piece.{Piece}
 use Rattle.sizing.specs.declared.Piece.the-variants.{Keep, Tall}
 
 abbrev pub closerOf : ℕ → ℕ
-closerOf x = cond (is "(" x) 41 93
+closerOf x = cond (is "(" x) (code ")") (code "]")
 
 closer-is : (x : ℕ) → Closer (closerOf x)
 closer-is x = go (is "(" x)
   where
-    go : (t : Bool) → Closer (cond t 41 93)
+    go : (t : Bool) → Closer (cond t (code ")") (code "]"))
     go true = inl refl
     go false = inr refl
 
@@ -55,13 +56,13 @@ before-is w s i h within =
 
 -- ---- a script group, by the code's test
 module _ (s : List ℕ) (i : ℕ) {a : Bool} {y : ℕ} (sign : a ≡ scriptSign (getD s i 0)) (next : y ≡ getD s (i + 1) 0) where
-  test-is : a && eqb y 123 ≡ scriptSign (getD s i 0) && is "{" (head (drop (i + 1) s))
+  test-is : a && eqb y (code "{") ≡ scriptSign (getD s i 0) && is "{" (head (drop (i + 1) s))
   test-is = ap₂ (λ b z. b && is "{" z) sign (next ∙ sym (head-drop s (i + 1)))
 
-  pub script-yes : a && eqb y 123 ≡ true → matchingDelimiter 123 125 (drop (i + 1) s) ≡ scriptGroup (getD s i 0) (drop (i + 1) s)
+  pub script-yes : a && eqb y (code "{") ≡ true → matchingDelimiter (code "{") (code "}") (drop (i + 1) s) ≡ scriptGroup (getD s i 0) (drop (i + 1) s)
   script-yes t = rw (sym test-is ∙ t, scriptGroup)
 
-  pub script-no : a && eqb y 123 ≡ false → none ≡ scriptGroup (getD s i 0) (drop (i + 1) s)
+  pub script-no : a && eqb y (code "{") ≡ false → none ≡ scriptGroup (getD s i 0) (drop (i + 1) s)
   script-no t = rw (sym test-is ∙ t, scriptGroup)
 
 -- ---- a tall group behind its opener
@@ -127,9 +128,9 @@ module _ (s : List ℕ) (i : ℕ) where
           closes = subst (λ d. closesAt d (drop (i + 1) s) r) (sym q) (t .closes);
         }
 
-    pub tall-other : (getD s i 0 ≡ 40 → ⊥) → (getD s i 0 ≡ 91 → ⊥) → TallAt s i Nothing
+    pub tall-other : (getD s i 0 ≡ code "(" → ⊥) → (getD s i 0 ≡ code "[" → ⊥) → TallAt s i Nothing
     tall-other a b =
-        let shut : closing (getD s i 0) ≡ none = rw (ne-eqb (getD s i 0) 40 a, ne-eqb (getD s i 0) 91 b, closing) in
+        let shut : closing (getD s i 0) ≡ none = rw (ne-eqb (getD s i 0) (code "(") a, ne-eqb (getD s i 0) (code "[") b, closing) in
         record {
           within = omega arith;
           group = open-group ∙ ap (groupWith (getD s i 0) (drop (i + 1) s)) shut;

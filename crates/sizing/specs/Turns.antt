@@ -5,6 +5,7 @@ use mathlib.Core.List.{List, [], _∷_, _++_}
 use Prim.Native.Nat.{ℕ, _+_, _-_, _*_, _≤_}
 use native.Mathlib.Omega.{arith}
 use lib.ListN.{length, getD, take, drop, drop-of-length-le}
+use Rattle.spec.specs.Result.{mostSymbols}
 use Rattle.spec.specs.Symbols.{bytes}
 use Rattle.spec.specs.Finish.{leftRight, sizeDelimitersToContent}
 use Rattle.text_symbols.specs.Parts.{part, length-part, sub-part}
@@ -17,7 +18,7 @@ use Rattle.sizing.specs.declared.Piece.{Piece}
 use Rattle.sizing.specs.declared.Piece.the-variants.{Keep, Tall}
 
 pub record DelimitersSized (w w′ : List ℕ) (from n to count r : ℕ) : Type 0 where
-  pub appended : Appended w w′ to 8192 count r (sizeDelimitersToContent (part from n w))
+  pub appended : Appended w w′ to mostSymbols count r (sizeDelimitersToContent (part from n w))
   pub few : r ≤ count + 7 * n
 
 pub sized-first : (s : List ℕ) → sizedAt s 0 ≡ sizeDelimitersToContent s
@@ -30,7 +31,7 @@ sized-end s i h = ap (sizes (before s i)) (drop-of-length-le s h) ∙ sizes-end 
 
 module _
     {w₀ w : List ℕ} {from n to count₀ count : ℕ} (i : ℕ) {whole : List ℕ}
-    (regions : Regions w₀ from n to 8192 count₀) (filling : Filling w₀ w to 8192 count₀ count (sizedAt (part from n w₀) i) whole)
+    (regions : Regions w₀ from n to mostSymbols count₀) (filling : Filling w₀ w to mostSymbols count₀ count (sizedAt (part from n w₀) i) whole)
     (r : Piece) (piece : PieceFor (part from (from + n - from) w) i r)
   where
     source : PieceFor (part from n w₀) i r
@@ -46,7 +47,7 @@ module _
       pub kept-fits : i + k ≤ n
       kept-fits = let l = length-part from n w₀ (regions .source) in let f = kept-piece .fits in omega arith
 
-      pub kept-more : {w′ : List ℕ} {count′ : ℕ} → Appended w w′ to 8192 count count′ (part (from + i) k w) → Filling w₀ w′ to 8192 count₀ count′ (sizedAt (part from n w₀) (i + k)) whole
+      pub kept-more : {w′ : List ℕ} {count′ : ℕ} → Appended w w′ to mostSymbols count count′ (part (from + i) k w) → Filling w₀ w′ to mostSymbols count₀ count′ (sizedAt (part from n w₀) (i + k)) whole
       kept-more a = filling-more filling a (kept-piece .step ∙ ap (λ t. t ++ sizedAt (part from n w₀) (i + k)) (sym (symbols i k kept-fits)))
 
     module _ {k : ℕ} (e : r ≡ Tall k) where
@@ -56,16 +57,16 @@ module _
       pub grown-fits : i + k + 2 ≤ n
       grown-fits = let l = length-part from n w₀ (regions .source) in let f = grown-piece .fits in omega arith
 
-      pub inner-apart : Apart (from + (i + 1)) k to 8192
-      inner-apart = apart-part from n to 8192 (i + 1) k (regions .apart) (let f = grown-fits in omega arith)
+      pub inner-apart : Apart (from + (i + 1)) k to mostSymbols
+      inner-apart = apart-part from n to mostSymbols (i + 1) k (regions .apart) (let f = grown-fits in omega arith)
 
       pub grown-more :
           {w₁ w₂ w₃ : List ℕ} {a b count′ : ℕ} {c : ℕ}
-          → Appended w w₁ to 8192 count a (bytes "\\left" ++ getD w (from + i) 0 ∷ [])
+          → Appended w w₁ to mostSymbols count a (bytes "\\left" ++ getD w (from + i) 0 ∷ [])
           → DelimitersSized w₁ w₂ (from + (i + 1)) k to a b
           → c ≡ closerOf (getD w (from + i) 0)
-          → Appended w₂ w₃ to 8192 b count′ (bytes "\\right" ++ c ∷ [])
-          → Filling w₀ w₃ to 8192 count₀ count′ (sizedAt (part from n w₀) (i + k + 2)) whole
+          → Appended w₂ w₃ to mostSymbols b count′ (bytes "\\right" ++ c ∷ [])
+          → Filling w₀ w₃ to mostSymbols count₀ count′ (sizedAt (part from n w₀) (i + k + 2)) whole
       grown-more {c = c} left inner closer right =
           let f = grown-fits in
           let x = getD (part from n w₀) i 0 in

@@ -9,7 +9,7 @@ ghost use mathlib.Core.Path.{_≡_};
 ghost use mathlib.Core.List.{[], _∷_, _++_};
 ghost use lib.ListN.{length};
 ghost use Rattle.spec.specs.Symbols.{bytes};
-ghost use Rattle.spec.specs.Result.{stage};
+ghost use Rattle.spec.specs.Result.{stage, mostSymbols};
 ghost use Rattle.spec.specs.Finish.{sizeDelimitersToContent};
 ghost use Rattle.text.specs.Writer.{Room, Appended, Regions};
 ghost use Rattle.text.specs.Stage.{Ready, Staged};
@@ -36,30 +36,30 @@ fn closer_of(b: u8) -> u8
 
 // Appends a command and its delimiter.
 fn put_sized(work: &mut [u8], to: usize, count: usize, command: &[u8], b: u8) -> usize
-    requires { ⌜ Room (now work) to 8192 count (length (now command) + 1) ⌝ }
-    ensures { λ r. ⌜ Appended (now (work .entry)) (now (work .exit)) to 8192 count r (now (command .entry) ++ b ∷ []) ⌝ }
+    requires { ⌜ Room (now work) to mostSymbols count (length (now command) + 1) ⌝ }
+    ensures { λ r. ⌜ Appended (now (work .entry)) (now (work .exit)) to mostSymbols count r (now (command .entry) ++ b ∷ []) ⌝ }
 {
     let end = text::put_all(work, to, text::CAP, count, command);
     text::put(work, to, text::CAP, end, b)
 }
 
 fn put_left(work: &mut [u8], to: usize, count: usize, b: u8) -> usize
-    requires { ⌜ Room (now work) to 8192 count 6 ⌝ }
-    ensures { λ r. ⌜ Appended (now (work .entry)) (now (work .exit)) to 8192 count r (bytes "\\left" ++ b ∷ []) ⌝ }
+    requires { ⌜ Room (now work) to mostSymbols count 6 ⌝ }
+    ensures { λ r. ⌜ Appended (now (work .entry)) (now (work .exit)) to mostSymbols count r (bytes "\\left" ++ b ∷ []) ⌝ }
 {
     put_sized(work, to, count, b"\\left", b)
 }
 
 fn put_right(work: &mut [u8], to: usize, count: usize, b: u8) -> usize
-    requires { ⌜ Room (now work) to 8192 count 7 ⌝ }
-    ensures { λ r. ⌜ Appended (now (work .entry)) (now (work .exit)) to 8192 count r (bytes "\\right" ++ b ∷ []) ⌝ }
+    requires { ⌜ Room (now work) to mostSymbols count 7 ⌝ }
+    ensures { λ r. ⌜ Appended (now (work .entry)) (now (work .exit)) to mostSymbols count r (bytes "\\right" ++ b ∷ []) ⌝ }
 {
     put_sized(work, to, count, b"\\right", b)
 }
 
 // Appends the `n` symbols at `from`, with tall groups sized, on every level.
 fn size(work: &mut [u8], from: usize, n: usize, to: usize, count: usize) -> usize
-    requires { ⌜ Regions (now work) from n to 8192 count ⌝ }
+    requires { ⌜ Regions (now work) from n to mostSymbols count ⌝ }
     ensures { λ r. ⌜ DelimitersSized (now (work .entry)) (now (work .exit)) from n to count r ⌝ }
 {
     let end = from + n;

@@ -6,6 +6,7 @@ ghost use mathlib.Core.Path.{_≡_};
 ghost use mathlib.Core.Bool.{_||_};
 ghost use mathlib.Core.List.{reverse};
 ghost use lib.ListN.{length, getD, drop};
+ghost use Rattle.text_search.specs.Half.{halfWork};
 ghost use Rattle.spec.specs.Symbols.{bytes, starts, contains};
 ghost use Rattle.spec.specs.Finish.{tall, scriptGroup, alreadySized};
 ghost use Rattle.text_search.specs.Search.{Closes};
@@ -50,7 +51,7 @@ fn is_sized(s: &[u8], i: usize) -> bool
 
 // The closer of the script group that begins at a place, counted from behind its sign.
 fn script_at(s: &[u8], i: usize) -> Found
-    requires { ⌜ (i < length (now s)) × (length (now s) ≤ 16384) ⌝ }
+    requires { ⌜ (i < length (now s)) × (length (now s) ≤ halfWork) ⌝ }
     ensures { λ r. ⌜ Closes (drop (i + 1) (now (s .entry))) r (scriptGroup (getD (now (s .entry)) i 0) (drop (i + 1) (now (s .entry)))) ⌝ }
 {
     let next = i + 1;
@@ -62,7 +63,7 @@ fn script_at(s: &[u8], i: usize) -> Found
 
 // The closer of a bracket that stands before the text, if what lies between is tall.
 fn tall_inside(s: &[u8], opener: u8, closer: u8) -> Found
-    requires { ⌜ length (now s) ≤ 16384 ⌝ }
+    requires { ⌜ length (now s) ≤ halfWork ⌝ }
     ensures { λ r. ⌜ TallIn (now (s .entry)) opener closer r ⌝ }
 {
     let Found::At(k) = text_closing::find_closer(s, opener, closer) else {
@@ -76,7 +77,7 @@ fn tall_inside(s: &[u8], opener: u8, closer: u8) -> Found
 
 // The closer of the tall group that begins at a place, counted from behind its opener.
 fn tall_at(s: &[u8], i: usize) -> Found
-    requires { ⌜ (i < length (now s)) × (length (now s) ≤ 16384) ⌝ }
+    requires { ⌜ (i < length (now s)) × (length (now s) ≤ halfWork) ⌝ }
     ensures { λ r. ⌜ TallAt (now (s .entry)) i r ⌝ }
 {
     let next = i + 1;
@@ -95,7 +96,7 @@ fn tall_at(s: &[u8], i: usize) -> Found
 
 // What is done at a place: a script group comes before a tall one.
 pub fn piece_at(s: &[u8], i: usize) -> Piece
-    requires { ⌜ (i < length (now s)) × (length (now s) ≤ 16384) ⌝ }
+    requires { ⌜ (i < length (now s)) × (length (now s) ≤ halfWork) ⌝ }
     ensures { λ r. ⌜ PieceFor (now (s .entry)) i r ⌝ }
 {
     let Found::At(j) = script_at(s, i) else {

@@ -5,6 +5,8 @@ use text::Progress;
 use text_search::Found;
 ghost use Prim.Native.Nat.{_≤_};
 ghost use lib.ListN.{length};
+ghost use Rattle.spec.specs.Result.{mostSymbols};
+ghost use Rattle.spec.specs.Pipeline.{leastWork};
 ghost use Rattle.text.specs.Stage.{Ready};
 
 fn convert(work: &mut [u8], section: usize, text: Progress) -> Progress
@@ -45,7 +47,7 @@ fn convert_syntax(work: &mut [u8], section: usize, text: Progress) -> Progress
 }
 
 fn search(section: usize, s: &[u8]) -> Found
-    requires { ⌜ length (now s) ≤ 8192 ⌝ }
+    requires { ⌜ length (now s) ≤ mostSymbols ⌝ }
 {
     match section {
         20 => text_closing::find_matching_paren(s),
@@ -95,8 +97,8 @@ fn show_atoms(answer: plain_check::PlainAnswer) {
 }
 
 fn run(work: &mut [u8], section: usize, formula: &[u8])
-    requires { ⌜ 32768 ≤ length (now work) ⌝ }
-    requires { ⌜ length (now formula) ≤ 8192 ⌝ }
+    requires { ⌜ leastWork ≤ length (now work) ⌝ }
+    requires { ⌜ length (now formula) ≤ mostSymbols ⌝ }
 {
     let n = text::put_all(work, 0, text::CAP, 0, formula);
     let progress = convert(work, section, Progress::Text(0, n));

@@ -14,6 +14,8 @@ use native.Mathlib.Omega.{arith}
 use lib.Dec.{ltb}
 use lib.ListN.{length, drop}
 use borrow.Author.Tests.{lt-ltb, le-ltb}
+use Rattle.spec.specs.Pipeline.{leastWork}
+use Rattle.text_search.specs.Half.{halfWork}
 use Rattle.spec.specs.Result.{Result, passed, refused, _then_, mostSymbols, grown, stage}
 use Rattle.text_symbols.specs.Parts.{part, length-part}
 use Rattle.text.specs.Writer.{Regions}
@@ -71,7 +73,7 @@ judged-text w t to {count} counted region held = go (decLt mostSymbols count)
         rw (le-ltb mostSymbols count l, le-ltb mostSymbols (length t) (omega arith)) (ap passed (held l), (region, l))
 
 pub record Ready (w : List ℕ) (p : Progress) : Type 0 where
-  pub long : 32768 ≤ length w
+  pub long : leastWork ≤ length w
   pub placed : Placed p
 
 pub record Answered (w w′ : List ℕ) (p p′ : Progress) (f : List ℕ → Result (List ℕ)) : Type 0 where
@@ -81,7 +83,7 @@ pub record Answered (w w′ : List ℕ) (p p′ : Progress) (f : List ℕ → Re
 
 pub record Staged (w w′ : List ℕ) (p p′ : Progress) (f : List ℕ → Result (List ℕ)) : Type 0 where
   pub answered : Answered w w′ p p′ f
-  pub beyond : drop 16384 w′ ≡ drop 16384 w
+  pub beyond : drop halfWork w′ ≡ drop halfWork w
 
 -- ---- one stage after another
 pub answered-ready : {w w′ : List ℕ} {p p′ : Progress} {f : List ℕ → Result (List ℕ)} → Ready w p → Answered w w′ p p′ f → Ready w′ p′
@@ -142,7 +144,7 @@ module _ {w : List ℕ} {p : Progress} {from n : ℕ} (ready : Ready w p) (e : p
   pub placed-text : ((from ≡ 0) ⊎ (from ≡ mostSymbols)) × (n ≤ mostSymbols)
   placed-text = subst Placed e (ready .placed)
 
-  pub placed-fits : from + n ≤ 16384
+  pub placed-fits : from + n ≤ halfWork
   placed-fits = let p = placed-text in let n = p .1 in ⊎-elim (λ z. omega arith) (λ z. omega arith) (p .0)
 
   pub placed-low : from ≤ mostSymbols
@@ -177,7 +179,7 @@ module _ {w : List ℕ} {p : Progress} {from n : ℕ} (ready : Ready w p) (e : p
       }
 
   -- ---- a stage that writes its text to the other region
-  pub placed-regions : Regions w from n (8192 - from) 8192 0
+  pub placed-regions : Regions w from n (mostSymbols - from) mostSymbols 0
   placed-regions =
       let long = ready .long in let short = placed-text .1 in
       ⊎-elim (λ z. record { source = omega arith; region = omega arith; apart = inl (omega arith); short = omega arith; small = omega arith })
@@ -186,17 +188,17 @@ module _ {w : List ℕ} {p : Progress} {from n : ℕ} (ready : Ready w p) (e : p
 
   pub staged-written :
       {w′ : List ℕ} {count : ℕ} {p′ : Progress} {t : List ℕ} (f : List ℕ → List ℕ)
-      → Written w w′ (8192 - from) 8192 count t → f (part from n w) ≡ t → p′ ≡ judged (8192 - from) count
+      → Written w w′ (mostSymbols - from) mostSymbols count t → f (part from n w) ≡ t → p′ ≡ judged (mostSymbols - from) count
       → Staged w w′ p p′ (stage f)
   staged-written {w′} {count} {t = t} f written same j =
       let fits = placed-regions .region in let c = written .counted in
-      let other : ((8192 - from) ≡ 0) ⊎ ((8192 - from) ≡ mostSymbols) = ⊎-elim (λ z. inr (omega arith)) (λ z. inl (omega arith)) (placed-text .0) in
-      let right = judged-text w′ t (8192 - from) c other (λ l. ap (λ m. part (8192 - from) m w′) c ∙ wrote-text (written .wrote) fits (omega arith)) in
+      let other : ((mostSymbols - from) ≡ 0) ⊎ ((mostSymbols - from) ≡ mostSymbols) = ⊎-elim (λ z. inr (omega arith)) (λ z. inl (omega arith)) (placed-text .0) in
+      let right = judged-text w′ t (mostSymbols - from) c other (λ l. ap (λ m. part (mostSymbols - from) m w′) c ∙ wrote-text (written .wrote) fits (omega arith)) in
       record {
         answered = record {
           answer = ap (λ q. shown q w′) j ∙ right .0 ∙ sym (ap (λ q. shown q w then stage f) e ∙ ap (λ s. grown s s) same);
           long = written .wrote .long;
           placed = subst Placed (sym j) (right .1);
         };
-        beyond = wrote-beyond {k = 16384} (written .wrote) (⊎-elim (λ z. omega arith) (λ z. omega arith) (placed-text .0));
+        beyond = wrote-beyond {k = halfWork} (written .wrote) (⊎-elim (λ z. omega arith) (λ z. omega arith) (placed-text .0));
       }

@@ -8,6 +8,7 @@ use Prim.Native.Nat.{ℕ, _+_, _-_, _*_, _<_, _≤_}
 use native.Mathlib.Nat.{add-zero}
 use native.Mathlib.Omega.{arith}
 use lib.ListN.{length, getD, take, drop, length-take}
+use Rattle.spec.specs.Pipeline.{leastWork}
 use Rattle.spec.specs.Sweep.{Turn, Rule, kept, sweep}
 use Rattle.spec.specs.Laws.Symbols.{drop-step}
 use Rattle.spec.specs.Laws.Sweep.{swept, swept-turn, swept-end}
@@ -56,7 +57,7 @@ module _ {rule : Rule} {w₀ w : List ℕ} {from n to cap count₀ count i : ℕ
   symbols-apart j m h = apart-part from n to cap j m (regions .apart) h
 
   module _ (more : i < n) where
-    pub turn-room : (m : ℕ) → m ≤ 32768 → Room w to cap count m
+    pub turn-room : (m : ℕ) → m ≤ leastWork → Room w to cap count m
     turn-room m h =
         let l = sweeping .long in let r = regions .region in let s = regions .small in let c = sweeping .bounded in
         record { region = omega arith; small = omega arith }

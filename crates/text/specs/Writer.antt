@@ -16,6 +16,7 @@ use lib.Dec.{ltb}
 use lib.ListN.{length, getD, set, take, drop, length-set, length-append, length-take, length-drop}
 use lib.Seq.{take-suc, getD-set-same, getD-set-other, ext-getD}
 use borrow.Author.Tests.{lt-ltb, le-ltb}
+use Rattle.text_search.specs.Half.{halfWork}
 use Rattle.text_symbols.specs.Parts.{part, getD-part}
 
 unfoldable pub stored : List ℕ → ℕ → ℕ → ℕ → ℕ → List ℕ
@@ -54,7 +55,7 @@ pub record Regions (w : List ℕ) (from n to cap count : ℕ) : Type 0 where
   pub source : from + n ≤ length w
   pub region : to + cap ≤ length w
   pub apart : Apart from n to cap
-  pub short : n ≤ 16384
+  pub short : n ≤ halfWork
   pub small : count + 1024 * n < 2 ^ 31
 
 -- ---- a byte is stored below the capacity, and not from there on

@@ -8,6 +8,7 @@ use text_search::Found;
 ghost use mathlib.Core.Path.{_≡_};
 ghost use Prim.Native.Nat.{_≤_, _<_};
 ghost use lib.ListN.{length};
+ghost use Rattle.text_search.specs.Half.{halfWork};
 ghost use Rattle.spec.specs.Closing.{close, findMatchingParen, findMatchingBrace, matchingDelimiter};
 ghost use Rattle.text_search.specs.Search.{Closes};
 ghost use Rattle.text_closing.specs.Closing.{started, stepped};
@@ -53,7 +54,7 @@ impl Tally {
 
 // The offset of the closer of one open bracket: the first at which the tally comes to 0.
 pub fn find_closer(s: &[u8], opener: u8, closer: u8) -> Found
-    requires { ⌜ length (now s) ≤ 16384 ⌝ }
+    requires { ⌜ length (now s) ≤ halfWork ⌝ }
     ensures { λ r. ⌜ Closes (now (s .entry)) r (close opener closer 0 (now (s .entry))) ⌝ }
 {
     let mut tally = Tally::new(opener, closer);
@@ -73,7 +74,7 @@ pub fn find_closer(s: &[u8], opener: u8, closer: u8) -> Found
 
 // The offset of the `)` that closes a group whose `(` has been passed.
 pub fn find_matching_paren(s: &[u8]) -> Found
-    requires { ⌜ length (now s) ≤ 16384 ⌝ }
+    requires { ⌜ length (now s) ≤ halfWork ⌝ }
     ensures { λ r. ⌜ Closes (now (s .entry)) r (findMatchingParen (now (s .entry))) ⌝ }
 {
     find_closer(s, b'(', b')')
@@ -81,7 +82,7 @@ pub fn find_matching_paren(s: &[u8]) -> Found
 
 // The offset of the `}` that closes a group whose `{` has been passed.
 pub fn find_matching_brace(s: &[u8]) -> Found
-    requires { ⌜ length (now s) ≤ 16384 ⌝ }
+    requires { ⌜ length (now s) ≤ halfWork ⌝ }
     ensures { λ r. ⌜ Closes (now (s .entry)) r (findMatchingBrace (now (s .entry))) ⌝ }
 {
     find_closer(s, b'{', b'}')
@@ -89,7 +90,7 @@ pub fn find_matching_brace(s: &[u8]) -> Found
 
 // The offset of the closer that belongs to the bracket that the text begins with.
 pub fn matching_delimiter(s: &[u8], opener: u8, closer: u8) -> Found
-    requires { ⌜ length (now s) ≤ 16384 ⌝ }
+    requires { ⌜ length (now s) ≤ halfWork ⌝ }
     ensures { λ r. ⌜ Closes (now (s .entry)) r (matchingDelimiter opener closer (now (s .entry))) ⌝ }
 {
     if s.len() == 0 {

@@ -1,2 +1,3 @@
 -- What the contracts of `text_search` and of the crates above it cite.
+pub mod Half
 pub mod Search

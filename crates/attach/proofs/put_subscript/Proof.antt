@@ -1,4 +1,5 @@
 -- `attach::put_subscript` meets its contract. The loop's invariant is that of a sweep, at place i. Assumes nothing.
+use Rattle.text_search.specs.Half.{halfWork}
 use Rattle.attach.specs.Subscript.{comma-replaced, symbol-kept}
 use Rattle.attach.specs.Weight.{commas}
 use Rattle.text.specs.Sweep.{Sweeping, sweeping-none, sweeping-all, turn-room, one-room}
@@ -11,7 +12,7 @@ use Rattle.attach.proofs.put_subscript.Statement.{statement}
 use Rattle.attach.proofs.put_subscript.Tie as tie
 
 abbrev Inv-loop : tie.InvT-loop
-Inv-loop work₀ to count from n end written₀ i₀ t11 t12 work written i = (end ≡ from + n) × Sweeping commas work₀ work from n to 16384 count written i
+Inv-loop work₀ to count from n end written₀ i₀ t11 t12 work written i = (end ≡ from + n) × Sweeping commas work₀ work from n to halfWork count written i
 
 abbrev μ-loop : tie.MeasureT-loop
 μ-loop work₀ to count from n end written₀ i₀ t11 t12 work written i = n - i

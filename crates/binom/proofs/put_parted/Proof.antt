@@ -1,4 +1,5 @@
 -- `binom::put_parted` meets its contract: the arguments are trimmed where they stand, and written. Assumes nothing.
+use Rattle.spec.specs.Result.{mostSymbols}
 use Rattle.binom.specs.Binom.{arguments-parted, arguments-few}
 use Rattle.text.specs.Writer.{apart-part}
 use native.Mathlib.Omega.{arith}
@@ -16,7 +17,7 @@ put-binom-requires c κs =
     let af = a .from in let ao = a .order in let at = a .to in
     let bf = b .from in let bo = b .order in let bt = b .to in
     let room = at-start .pre .0 in
-    let apart = apart-part (at-start .args .inside) (at-start .args .k) (at-start .args .to) 8192 in (
+    let apart = apart-part (at-start .args .inside) (at-start .args .k) (at-start .args .to) mostSymbols in (
       record { region = omega arith; small = omega arith },
       ((omega arith, omega arith), (apart _ _ (at-start .pre .1 .1) (omega arith), apart _ _ (at-start .pre .1 .1) (omega arith))),
     )

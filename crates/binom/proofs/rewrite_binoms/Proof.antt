@@ -1,4 +1,5 @@
 -- `binom::rewrite_binoms` meets its contract. The loop's invariant is that of a sweep, at place i. Assumes nothing.
+use Rattle.spec.specs.Result.{mostSymbols}
 use Rattle.binom.specs.Binom.{copied-uncalled, copied-unparted, comma-within, binom-written, inside-apart}
 use Rattle.call_rewriting.specs.Delimiters.{call-fits}
 use Rattle.text.specs.Sweep.{Sweeping, sweeping-none, sweeping-all, turn-room, one-room}
@@ -12,7 +13,7 @@ use Rattle.binom.proofs.rewrite_binoms.Statement.{statement}
 use Rattle.binom.proofs.rewrite_binoms.Tie as tie
 
 abbrev Inv-loop : tie.InvT-loop
-Inv-loop work₀ from n to end count₀ i₀ name work count i = (end ≡ from + n) × Sweeping binom work₀ work from n to 8192 0 count i
+Inv-loop work₀ from n to end count₀ i₀ name work count i = (end ≡ from + n) × Sweeping binom work₀ work from n to mostSymbols 0 count i
 
 abbrev μ-loop : tie.MeasureT-loop
 μ-loop work₀ from n to end count₀ i₀ name work count i = n - i

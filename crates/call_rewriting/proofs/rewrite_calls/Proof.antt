@@ -1,4 +1,5 @@
 -- `call_rewriting::rewrite_calls` meets its contract. The loop's invariant is that of a sweep, at place i. Assumes nothing.
+use Rattle.spec.specs.Result.{mostSymbols}
 use Rattle.call_rewriting.specs.Delimiters.{delimited, call-fits, called-here, copied-here, argument-written, written-few}
 use Rattle.text.specs.Sweep.{Sweeping, sweeping-none, sweeping-all, symbols-apart, turn-room, one-room}
 use Rattle.text_symbols.specs.Parts.{part, length-part}
@@ -13,7 +14,7 @@ use Rattle.call_rewriting.proofs.rewrite_calls.Tie as tie
 
 abbrev Inv-loop : tie.InvT-loop
 Inv-loop work₀ from n to name left right trims end count₀ i₀ work count i =
-    (end ≡ from + n) × Sweeping (calling name (delimited trims left right)) work₀ work from n to 8192 0 count i
+    (end ≡ from + n) × Sweeping (calling name (delimited trims left right)) work₀ work from n to mostSymbols 0 count i
 
 abbrev μ-loop : tie.MeasureT-loop
 μ-loop work₀ from n to name left right trims end count₀ i₀ work count i = n - i

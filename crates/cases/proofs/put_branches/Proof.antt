@@ -1,4 +1,5 @@
 -- `cases::put_branches` meets its contract. The loop's invariant: the branches before `start` have been appended. Assumes nothing.
+use Rattle.spec.specs.Result.{mostSymbols}
 use Rattle.cases.specs.Cases.{Branched, Branching, branching-none, branching-blank, branching-more, branching-all, branches-read, branch-read}
 use Rattle.text.specs.Writer.{apart-part, appended-long}
 use Rattle.text_symbols.specs.Parts.{part, length-part}
@@ -10,7 +11,7 @@ use Rattle.cases.proofs.put_branches.Statement.{statement}
 use Rattle.cases.proofs.put_branches.Tie as tie
 
 abbrev Inv-loop : tie.InvT-loop
-Inv-loop work₀ to count from n end written₀ later₀ start₀ work written later start = (start ≤ n + 1) × (length work ≡ length work₀) × Branching (part from n work₀) work₀ work to 8192 count written later start
+Inv-loop work₀ to count from n end written₀ later₀ start₀ work written later start = (start ≤ n + 1) × (length work ≡ length work₀) × Branching (part from n work₀) work₀ work to mostSymbols count written later start
 
 abbrev μ-loop : tie.MeasureT-loop
 μ-loop work₀ to count from n end written₀ later₀ start₀ work written later start = n + 1 - start
@@ -63,7 +64,7 @@ put-branch-requires c κs =
     let slow = at-loop .loop .inv .2 .bounded in
     let regions = at-start .pre .0 in
     let r = at-branch-at .branch-at .result in
-    (record { region = omega arith; small = omega arith }, (omega arith, apart-part (at-start .args .from) (at-start .args .n) (at-start .args .to) 8192 (r .start) (r .end - r .start) (regions .apart) (omega arith)))
+    (record { region = omega arith; small = omega arith }, (omega arith, apart-part (at-start .args .from) (at-start .args .n) (at-start .args .to) mostSymbols (r .start) (r .end - r .start) (regions .apart) (omega arith)))
 
 loop-less-2 : tie.Need-loop-less-2 Inv-loop μ-loop
 loop-less-2 c =

@@ -1,4 +1,5 @@
 -- `fraction_denominators::after_brackets` meets its contract. Assumes nothing.
+use Prim.Native.Char.{code}
 use Rattle.fraction_denominators.specs.After.{brackets-are, shorter-none, shorter-some}
 use Rattle.fraction_operands.specs.Places.{ahead-found, ahead-is, ahead-nothing}
 use Rattle.spec.specs.Fractions.{power, shorterThan}
@@ -19,7 +20,7 @@ returns c =
     let a = at-start .args in
     let s = a .s .now in
     let sign = ap (is "^") (at-symbol .symbol .ensures ∙ sym (head-drop s (a .base))) in
-    let e = brackets-are s (a .start) (a .base) (c .before .before .before .past-power .result) (eqb (at-symbol .symbol .result) 94) sign (c .before .before .before .past-power .ensures .left) in
+    let e = brackets-are s (a .start) (a .base) (c .before .before .before .past-power .result) (eqb (at-symbol .symbol .result) (code "^")) sign (c .before .before .before .past-power .ensures .left) in
     record { from = omega arith; within = omega arith; left = sym (e ∙ ap (shorterThan (length (drop (a .start) s))) (ahead-nothing (c .before .before .past-arguments .ensures) (c .enum-told .given .1))) }
 
 returns-2 : tie.Need-returns-2
@@ -31,7 +32,7 @@ returns-2 c =
     let a = at-start .args in
     let s = a .s .now in
     let sign = ap (is "^") (at-symbol .symbol .ensures ∙ sym (head-drop s (a .base))) in
-    let e = brackets-are s (a .start) (a .base) (at-past-power .past-power .result) (eqb (at-symbol .symbol .result) 94) sign (at-past-power .past-power .ensures .left) in
+    let e = brackets-are s (a .start) (a .base) (at-past-power .past-power .result) (eqb (at-symbol .symbol .result) (code "^")) sign (at-past-power .past-power .ensures .left) in
     let end = c .before .before .end .given .0 .0 in
     let found = ahead-is (at-past-arguments .past-arguments .ensures) (c .before .before .end .given .1) in
     let same = ap (λ n. length (drop n s)) (c .if1 .taken) in
@@ -50,7 +51,7 @@ returns-3 c =
     let a = at-start .args in
     let s = a .s .now in
     let sign = ap (is "^") (at-symbol .symbol .ensures ∙ sym (head-drop s (a .base))) in
-    let e = brackets-are s (a .start) (a .base) (at-past-power .past-power .result) (eqb (at-symbol .symbol .result) 94) sign (at-past-power .past-power .ensures .left) in
+    let e = brackets-are s (a .start) (a .base) (at-past-power .past-power .result) (eqb (at-symbol .symbol .result) (code "^")) sign (at-past-power .past-power .ensures .left) in
     let end = c .before .before .end .given .0 .0 in
     let at = ahead-found (at-past-arguments .past-arguments .ensures) (c .before .before .end .given .1) in
     let found = ahead-is (at-past-arguments .past-arguments .ensures) (c .before .before .end .given .1) in

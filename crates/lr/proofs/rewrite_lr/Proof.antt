@@ -1,4 +1,5 @@
 -- `lr::rewrite_lr` meets its contract. The loop's invariant is that of a sweep, at place i, and no bare delimiter has been reached. Assumes nothing.
+use Rattle.spec.specs.Result.{mostSymbols}
 use Rattle.lr.specs.Lr.{comes-past-no-call, bare-here, sized-here, sized-written, sized-few}
 use Rattle.lr.specs.Reached.{comes, comes-first, comes-end}
 use Rattle.call_rewriting.specs.Delimiters.{call-fits, called-here, copied-here}
@@ -18,7 +19,7 @@ use Rattle.lr.proofs.rewrite_lr.Tie as tie
 
 abbrev Inv-loop : tie.InvT-loop
 Inv-loop work₀ from n to end count₀ i₀ work count i =
-    (end ≡ from + n) × Sweeping lr work₀ work from n to 8192 0 count i
+    (end ≡ from + n) × Sweeping lr work₀ work from n to mostSymbols 0 count i
     × (reached bareDelimiter lr 0 0 (part from n work₀) ≡ comes bareDelimiter lr (part from n work₀) i)
 
 abbrev μ-loop : tie.MeasureT-loop

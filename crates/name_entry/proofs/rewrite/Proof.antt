@@ -4,6 +4,7 @@ use mathlib.Core.Path.{_≡_, refl}
 use native.Mathlib.Omega.{arith}
 use lib.ListN.{length, length-take, length-drop}
 use borrow.Author.Tests.{not-true, not-false}
+use Rattle.spec.specs.Result.{mostSymbols}
 use Rattle.text.specs.Sweep.{Sweeping, sweeping-none, sweeping-all, turn-room, one-room}
 use Rattle.name_entry.specs.Bounded.{bounded}
 use Rattle.name_entry.specs.Turns.{copied-here, taken-within, written-here}
@@ -12,7 +13,7 @@ use Rattle.name_entry.proofs.rewrite.Tie as tie
 
 abbrev Inv-loop : tie.InvT-loop
 Inv-loop work₀ from n to bounds pattern fresh end count₀ i₀ work count i =
-    (end ≡ from + n) × Sweeping (bounded bounds pattern fresh) work₀ work from n to 8192 0 count i
+    (end ≡ from + n) × Sweeping (bounded bounds pattern fresh) work₀ work from n to mostSymbols 0 count i
 
 abbrev μ-loop : tie.MeasureT-loop
 μ-loop work₀ from n to bounds pattern fresh end count₀ i₀ work count i = n - i

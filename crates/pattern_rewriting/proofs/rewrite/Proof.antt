@@ -1,4 +1,5 @@
 -- `pattern_rewriting::rewrite` meets its contract. The loop's invariant is that of a sweep, at place i. Assumes nothing.
+use Rattle.spec.specs.Result.{mostSymbols}
 use Rattle.pattern_rewriting.specs.Edits.{EditFits, patternRule}
 use Rattle.pattern_rewriting.specs.Turns.{edit-fits, edit-within, written-here, copied-here}
 use Rattle.text.specs.Sweep.{Sweeping, restFrom, sweeping-none, sweeping-all, symbols-apart, turn-room, one-room}
@@ -11,7 +12,7 @@ use Rattle.pattern_rewriting.proofs.rewrite.Statement.{statement}
 use Rattle.pattern_rewriting.proofs.rewrite.Tie as tie
 
 abbrev Inv-loop : tie.InvT-loop
-Inv-loop work₀ from n to kind pattern left end count₀ i₀ work count i = (end ≡ from + n) × Sweeping (patternRule kind pattern left) work₀ work from n to 8192 0 count i
+Inv-loop work₀ from n to kind pattern left end count₀ i₀ work count i = (end ≡ from + n) × Sweeping (patternRule kind pattern left) work₀ work from n to mostSymbols 0 count i
 
 abbrev μ-loop : tie.MeasureT-loop
 μ-loop work₀ from n to kind pattern left end count₀ i₀ work count i = n - i

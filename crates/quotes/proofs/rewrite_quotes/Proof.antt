@@ -1,4 +1,5 @@
 -- `quotes::rewrite_quotes` meets its contract. The loop's invariant: i symbols have been read, and `tail` is the end of what has been written. Assumes nothing.
+use Rattle.spec.specs.Result.{mostSymbols}
 use Rattle.quotes.specs.Quotes.{Quoting, ClosedAt, grownBy, endIn, quoting-none, quoting-plain, quoting-open, quoting-close, quoting-done, quoting-unclosed}
 use Rattle.text.specs.Written.{wrote-read, wrote-apart}
 use Rattle.text.specs.Writer.{appended-long}
@@ -13,7 +14,7 @@ use Rattle.quotes.proofs.rewrite_quotes.Statement.{statement}
 use Rattle.quotes.proofs.rewrite_quotes.Tie as tie
 
 abbrev Inv-loop : tie.InvT-loop
-Inv-loop work₀ from n to end count₀ quoted₀ tail₀ i₀ work count quoted tail i = (i ≤ n) × (length work ≡ length work₀) × (length (part from n work₀) ≡ n) × Quoting (part from n work₀) work₀ work to 8192 count quoted tail i
+Inv-loop work₀ from n to end count₀ quoted₀ tail₀ i₀ work count quoted tail i = (i ≤ n) × (length work ≡ length work₀) × (length (part from n work₀) ≡ n) × Quoting (part from n work₀) work₀ work to mostSymbols count quoted tail i
 
 abbrev μ-loop : tie.MeasureT-loop
 μ-loop work₀ from n to end count₀ quoted₀ tail₀ i₀ work count quoted tail i = n - i

@@ -1,5 +1,6 @@
 -- `sizing::size` meets its contract. It calls itself on a shorter part, so its measure is the number of symbols. The loop's invariant: what has been
 -- written and what is to be written from place i on are the whole. Assumes nothing.
+use Rattle.spec.specs.Result.{mostSymbols}
 use Rattle.sizing.specs.Pieces.{sizedAt}
 use Rattle.sizing.specs.Turns.{sized-first, sized-end, kept-piece, kept-fits, kept-more, grown-fits, inner-apart, grown-more}
 use Rattle.spec.specs.Finish.{sizeDelimitersToContent}
@@ -52,7 +53,7 @@ callees t = (
 abbrev Inv-loop : size-lts.InvT-loop
 Inv-loop work₀ from n to count end total₀ i₀ work total i =
     (i ≤ n) × (end ≡ from + n) × (length work ≡ length work₀) × (total ≤ count + 7 * i)
-    × Filling work₀ work to 8192 count total (sizedAt (part from n work₀) i) (sizeDelimitersToContent (part from n work₀))
+    × Filling work₀ work to mostSymbols count total (sizedAt (part from n work₀) i) (sizeDelimitersToContent (part from n work₀))
 
 abbrev μ-loop : size-lts.MeasureT-loop
 μ-loop work₀ from n to count end total₀ i₀ work total i = n - i
@@ -65,7 +66,7 @@ loop-holds t c =
       refl,
       refl,
       omega arith,
-      subst (λ r. Filling (a .work .now) (a .work .now) (a .to) 8192 (a .count) (a .count) r (sizeDelimitersToContent s)) (sym (sized-first s)) (filling-none _ _ _ _ _),
+      subst (λ r. Filling (a .work .now) (a .work .now) (a .to) mostSymbols (a .count) (a .count) r (sizeDelimitersToContent s)) (sym (sized-first s)) (filling-none _ _ _ _ _),
     )
 
 piece-at-requires : (t : ℕ) → size-lts.Need-piece-at-requires (callees t) (size-at t) size.Post Inv-loop μ-loop
@@ -90,7 +91,7 @@ copy-requires t c κs =
     let p = at-loop .before .before .pre .1 in
     let f = keeps t (c .before) in
     let k = c .before .before .k .given .0 .0 in
-    (record { region = omega arith; small = omega arith }, (omega arith, apart-part (a .from) (a .n) (a .to) 8192 (at-loop .loop .i) k (p .apart) (f .1)))
+    (record { region = omega arith; small = omega arith }, (omega arith, apart-part (a .from) (a .n) (a .to) mostSymbols (at-loop .loop .i) k (p .apart) (f .1)))
 
 add-i : (t : ℕ) → size-lts.Need-add-i (callees t) (size-at t) size.Post Inv-loop μ-loop
 add-i t c =

@@ -1,5 +1,6 @@
 -- `escapes::braces::escape` meets its contract. The loop's invariant: what has been written and what is to be written from place i on are the whole.
 -- Assumes nothing.
+use Rattle.spec.specs.Result.{mostSymbols}
 use Rattle.escapes.specs.Braces.{escapedFrom, escaped-from-first, escaped-from-end, escaped-from-more, escaped-from-few}
 use Rattle.spec.specs.Finish.{escapeSetBraces}
 use Rattle.text.specs.Filling.{Filling, filling-none, filling-all}
@@ -15,7 +16,7 @@ use Rattle.escapes.proofs.braces.escape.Tie as tie
 abbrev Inv-loop : tie.InvT-loop
 Inv-loop work₀ from n to end count₀ i₀ work count i =
     (end ≡ from + n) × (length work ≡ length work₀) × (i ≤ n) × (count ≤ 2 * i)
-    × Filling work₀ work to 8192 0 count (escapedFrom (part from n work₀) i) (escapeSetBraces (part from n work₀))
+    × Filling work₀ work to mostSymbols 0 count (escapedFrom (part from n work₀) i) (escapeSetBraces (part from n work₀))
 
 abbrev μ-loop : tie.MeasureT-loop
 μ-loop work₀ from n to end count₀ i₀ work count i = n - i
@@ -24,7 +25,7 @@ loop-holds : tie.Need-loop-holds Inv-loop μ-loop
 loop-holds c =
     let a = c .before .args in
     let s = part (a .from) (a .n) (a .work .now) in
-    (refl, refl, omega arith, omega arith, subst (λ r. Filling (a .work .now) (a .work .now) (a .to) 8192 0 0 r (escapeSetBraces s)) (sym (escaped-from-first s)) (filling-none _ _ _ _ _))
+    (refl, refl, omega arith, omega arith, subst (λ r. Filling (a .work .now) (a .work .now) (a .to) mostSymbols 0 0 r (escapeSetBraces s)) (sym (escaped-from-first s)) (filling-none _ _ _ _ _))
 
 is-bare-requires : tie.Need-is-bare-requires Inv-loop μ-loop
 is-bare-requires c κs = (simp (length-take, length-drop) (omega arith), simp (length-take, length-drop) (omega arith))

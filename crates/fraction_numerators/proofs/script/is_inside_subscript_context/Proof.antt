@@ -5,6 +5,7 @@ use Rattle.text_closing.specs.Closing.{opener-kept, closer-kept, depth-stepped,
 use Rattle.spec.specs.Fractions.{isInsideSubscriptContext}
 use Rattle.text.specs.Sweep.{restFrom}
 use Prim.Native.Nat.{_+_, _-_, _≤_, _<_}
+use Prim.Native.Char.{code}
 use borrow.Author.Needs.{needs}
 use lib.ListN.{length, getD}
 use mathlib.Core.Path.{refl, sym, ap, _∙_, _≡_, subst}
@@ -14,7 +15,7 @@ use Rattle.fraction_numerators.proofs.script.is_inside_subscript_contex
 
 abbrev Inv-loop : tie.InvT-loop
 Inv-loop s pos tally₀ i₀ tally i =
-    (i ≤ pos) × (pos ≤ length s) × (tally .opener ≡ 41) × (tally .closer ≡ 40) × (0 < tally .depth) × (tally .depth + i ≤ length s + 1)
+    (i ≤ pos) × (pos ≤ length s) × (tally .opener ≡ code ")") × (tally .closer ≡ code "(") × (0 < tally .depth) × (tally .depth + i ≤ length s + 1)
     × (isInsideSubscriptContext 0 (before s pos) ≡ isInsideSubscriptContext (tally .depth - 1) (before s i))
 
 abbrev μ-loop : tie.MeasureT-loop
@@ -65,7 +66,7 @@ loop-again-2 c =
     let rest = before s (i - 1) in
     let step = c .before .before .step .ensures in
     let depth = depth-stepped (at-loop .loop .tally) x (inv .2) (inv .3) step in
-    let more = depth-more 41 40 d x rest (inv .4) in
+    let more = depth-more (code ")") (code "(") d x rest (inv .4) in
     let deep : 0 < (c .before .before .step .result .depth) = omega arith in (
       omega arith,
       omega arith,

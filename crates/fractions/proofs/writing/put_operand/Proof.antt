@@ -1,4 +1,5 @@
 -- `fractions::writing::put_operand` meets its contract, by where the operand stands. Assumes nothing.
+use Rattle.spec.specs.Result.{mostSymbols}
 use Rattle.fractions.specs.Writing.{operand-fits, operand-part, operand-apart, room-less}
 use Rattle.spec.specs.Symbols.{inside}
 use Rattle.text.specs.Writer.{Appended}
@@ -27,7 +28,7 @@ returns c =
     let at-start : tie.Start = search in
     let a = at-start .args in
     let e = operand-part (a .work .now) (a .span) (at-operand-span .operand-span .ensures) in
-    subst (Appended (a .work .now) (c .before .before .copy .last .0) (a .to) 8192 (a .count) (c .before .before .copy .result)) e (c .before .before .copy .ensures)
+    subst (Appended (a .work .now) (c .before .before .copy .last .0) (a .to) mostSymbols (a .count) (c .before .before .copy .result)) e (c .before .before .copy .ensures)
 
 pub put-operand-spec : {M : Type 1} → statement M
 put-operand-spec =

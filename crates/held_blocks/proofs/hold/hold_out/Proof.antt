@@ -5,6 +5,7 @@ use native.Mathlib.Omega.{arith}
 use borrow.Author.Needs.{needs}
 use borrow.Author.Tests.{not-true, not-false}
 use lib.ListN.{length, length-take, length-drop}
+use Rattle.spec.specs.Result.{mostSymbols}
 use Rattle.text.specs.Writer.{apart-part, appended-long}
 use Rattle.held_blocks.specs.HoldOut.{Holding, holding-none, holding-long, text-room, block-room, place-room, name-fits, holding-all, holding-other, holding-rest, block-fits, holding-held}
 use Rattle.held_blocks.proofs.hold.hold_out.Statement.{statement}
@@ -30,7 +31,7 @@ copy-requires c κs =
     let more = in-loop .loop-test .taken in
     let ends = at-loop .loop .inv .0 in
     let short = o .short in
-    (text-room o h 1 (omega arith) (omega arith), (omega arith, apart-part (at-start .args .from) (at-start .args .n) (at-start .args .to) 8192 (at-loop .loop .i) 1 (o .apart) (omega arith)))
+    (text-room o h 1 (omega arith) (omega arith), (omega arith, apart-part (at-start .args .from) (at-start .args .n) (at-start .args .to) mostSymbols (at-loop .loop .i) 1 (o .apart) (omega arith)))
 
 loop-again : tie.Need-loop-again Inv-loop μ-loop
 loop-again c =
@@ -88,7 +89,7 @@ copy-requires-2 c κs =
     let more = in-loop .loop-test .taken in
     let ends = at-loop .loop .inv .0 in
     let short = o .short in
-    (text-room o h (at-start .args .n - at-loop .loop .i) (omega arith) (omega arith), (omega arith, apart-part (at-start .args .from) (at-start .args .n) (at-start .args .to) 8192 (at-loop .loop .i) (at-start .args .n - at-loop .loop .i) (o .apart) (omega arith)))
+    (text-room o h (at-start .args .n - at-loop .loop .i) (omega arith) (omega arith), (omega arith, apart-part (at-start .args .from) (at-start .args .n) (at-start .args .to) mostSymbols (at-loop .loop .i) (at-start .args .n - at-loop .loop .i) (o .apart) (omega arith)))
 
 loop-again-2 : tie.Need-loop-again-2 Inv-loop μ-loop
 loop-again-2 c =
@@ -122,7 +123,7 @@ put-requires c κs =
 -- where the block closes, it ends within the text; and what is small enough for the sums of that turn
 record Bounds (i name k n listed : ℕ) : Type 0 where
   pub ends : i + name + k + 1 ≤ n
-  pub short : n ≤ 8192
+  pub short : n ≤ mostSymbols
   pub few : listed ≤ 5120 + 4 * i
 
 bounds : (c : tie.After-known-told Inv-loop μ-loop) → (let at-loop : tie.At-loop Inv-loop μ-loop = search in let at-start : tie.Start Inv-loop μ-loop = search in Bounds (at-loop .loop .i) (length (at-start .args .name .now)) (c .before .k .given .0 .0) (at-start .args .n) (at-loop .loop .listed))

@@ -1,5 +1,6 @@
 -- `layout::alignment::put_lines` meets its contract. The loop's invariant: what has been written and what is to be written from place i on are the whole.
 -- Assumes nothing.
+use Rattle.spec.specs.Result.{mostSymbols}
 use Rattle.layout.specs.Aligned.{linedTo, lined-end, lines-more, lines-few}
 use Rattle.text.specs.Filling.{Filling, filling-none, filling-all}
 use Rattle.text_symbols.specs.Parts.{part}
@@ -14,7 +15,7 @@ use Rattle.layout.proofs.alignment.put_lines.Tie as tie
 abbrev Inv-loop : tie.InvT-loop
 Inv-loop work₀ from n to count start stop end total₀ i₀ work total i =
     (end ≡ from + n) × (length work ≡ length work₀) × (start ≤ i) × (i ≤ stop) × (total ≤ count + 2 * (i - start))
-    × Filling work₀ work to 8192 count total (linedTo (part from n work₀) stop i) (linedTo (part from n work₀) stop start)
+    × Filling work₀ work to mostSymbols count total (linedTo (part from n work₀) stop i) (linedTo (part from n work₀) stop start)
 
 abbrev μ-loop : tie.MeasureT-loop
 μ-loop work₀ from n to count start stop end total₀ i₀ work total i = stop - i

@@ -1,5 +1,6 @@
 -- `layout::thin::drop_gaps` meets its contract. The loop's invariant: what has been written and what is to be written from place i on are the whole.
 -- Assumes nothing.
+use Rattle.spec.specs.Result.{mostSymbols}
 use Rattle.layout.specs.Thin.{thinned, thinned-first, thinned-end, gap-fits, gap-more, gap-few, symbol-more}
 use Rattle.spec.specs.Finish.{dropThinSpaceAfterCommands}
 use Rattle.text.specs.Filling.{Filling, filling-none, filling-all}
@@ -16,7 +17,7 @@ use Rattle.layout.proofs.thin.drop_gaps.Tie as tie
 abbrev Inv-loop : tie.InvT-loop
 Inv-loop work₀ from n to end count₀ start₀ i₀ work count start i =
     (end ≡ from + n) × (length work ≡ length work₀) × (i ≤ n) × (start ≤ i) × (count ≤ i)
-    × Filling work₀ work to 8192 0 count (thinned (part from n work₀) start i) (dropThinSpaceAfterCommands (part from n work₀))
+    × Filling work₀ work to mostSymbols 0 count (thinned (part from n work₀) start i) (dropThinSpaceAfterCommands (part from n work₀))
 
 abbrev μ-loop : tie.MeasureT-loop
 μ-loop work₀ from n to end count₀ start₀ i₀ work count start i = n - i
@@ -30,7 +31,7 @@ loop-holds c =
       omega arith,
       omega arith,
       omega arith,
-      subst (λ r. Filling (a .work .now) (a .work .now) (a .to) 8192 0 0 r (dropThinSpaceAfterCommands s)) (sym (thinned-first s)) (filling-none _ _ _ _ _),
+      subst (λ r. Filling (a .work .now) (a .work .now) (a .to) mostSymbols 0 0 r (dropThinSpaceAfterCommands s)) (sym (thinned-first s)) (filling-none _ _ _ _ _),
     )
 
 -- the thin space ends within the text

@@ -5,6 +5,7 @@ use Rattle.text_search.specs.Search.{Closes, closes-rest}
 use lib.ListN.{drop, length-take, length-drop}
 use mathlib.Core.Path.{subst}
 use Prim.Native.Nat.{_+_}
+use Prim.Native.Char.{code}
 use native.Mathlib.Omega.{arith}
 use borrow.Author.Needs.{needs}
 use Rattle.sizing.proofs.pieces.script_at.Statement.{statement}
@@ -19,7 +20,7 @@ returns c =
     let at-start : tie.Start = search in
     let a = at-start .args in
     subst (Closes (drop (a .i + 1) (a .s .now)) (c .matching-delimiter .result)) (script-yes (a .s .now) (a .i) (at-is-script-sign .is-script-sign .ensures) (c .before .before .before .symbol .ensures) (c .before .before .if1 .taken))
-    (closes-rest (a .s .now) (a .i + 1) (matchingDelimiter 123 125) (c .matching-delimiter .ensures))
+    (closes-rest (a .s .now) (a .i + 1) (matchingDelimiter (code "{") (code "}")) (c .matching-delimiter .ensures))
 
 returns-2 : tie.Need-returns-2
 returns-2 c =

@@ -4,6 +4,7 @@ use Rattle.text_symbols.specs.Parts.{rest-of}
 use lib.ListN.{length-take, length-drop}
 use mathlib.Core.Path.{refl, sym, _∙_, subst}
 use Prim.Native.Nat.{_+_}
+use Prim.Native.Char.{code}
 use native.Mathlib.Omega.{arith}
 use Rattle.sizing.proofs.pieces.tall_at.Statement.{statement}
 use Rattle.sizing.proofs.pieces.tall_at.Tie as tie
@@ -20,8 +21,8 @@ returns-2 c =
     let at-is-sized : tie.After-is-sized = search in
     let at-start : tie.Start = search in
     let a = at-start .args in
-    tall-here (a .s .now) (a .i) (sym (at-is-sized .is-sized .ensures) ∙ else1 .if1 .left) 40 41 (c .before .before .if2 .taken) refl refl
-    (subst (λ u. TallIn u 40 41 (c .tall-inside .result)) (rest-of (a .i + 1) (a .s .now)) (c .tall-inside .ensures))
+    tall-here (a .s .now) (a .i) (sym (at-is-sized .is-sized .ensures) ∙ else1 .if1 .left) (code "(") (code ")") (c .before .before .if2 .taken) refl refl
+    (subst (λ u. TallIn u (code "(") (code ")") (c .tall-inside .result)) (rest-of (a .i + 1) (a .s .now)) (c .tall-inside .ensures))
 
 tall-inside-requires-2 : tie.Need-tall-inside-requires-2
 tall-inside-requires-2 c κs = simp (length-take, length-drop) (omega arith)
@@ -32,8 +33,8 @@ returns-3 c =
     let at-is-sized : tie.After-is-sized = search in
     let at-start : tie.Start = search in
     let a = at-start .args in
-    tall-here (a .s .now) (a .i) (sym (at-is-sized .is-sized .ensures) ∙ else1 .if1 .left) 91 93 (c .before .before .if3 .taken) refl refl
-    (subst (λ u. TallIn u 91 93 (c .tall-inside2 .result)) (rest-of (a .i + 1) (a .s .now)) (c .tall-inside2 .ensures))
+    tall-here (a .s .now) (a .i) (sym (at-is-sized .is-sized .ensures) ∙ else1 .if1 .left) (code "[") (code "]") (c .before .before .if3 .taken) refl refl
+    (subst (λ u. TallIn u (code "[") (code "]") (c .tall-inside2 .result)) (rest-of (a .i + 1) (a .s .now)) (c .tall-inside2 .ensures))
 
 returns-4 : tie.Need-returns-4
 returns-4 c =
