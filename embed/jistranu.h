@@ -4,7 +4,7 @@
  * may call it, each with buffers of its own.
  *
  * Measured: a conversion takes up to 0.8 MB of stack (0.4 MB without a table), a plain check up to 1.2 MB: 192 and 272 bytes for each
- * parenthesis that is open. Where none is, 5 KB and 1 KB.
+ * parenthesis that is open. Where none is, 5 KB and 1.5 KB.
  *
  * Pointers are never null. Where a length is 0, the pointer may be any other, as that of an empty string.
  * `work`, `output` and `count` overlap neither each other nor the formula and the table.

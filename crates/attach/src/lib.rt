@@ -254,6 +254,8 @@ fn settle(work: &mut [u8], place: TextPlace) -> Progress
     text::finished(0, count)
 }
 
+// `attach(x, b: y)` becomes `\underset{y}{x}`, again and again from the first call on, until that one can't be rewritten. Judged by
+// the finished text, however long it was between two rewritings.
 pub fn convert_attach(work: &mut [u8], text: Progress) -> Progress
     requires { ⌜ Ready (now work) text ⌝ }
     ensures { λ r. ⌜ Answered (now (work .entry)) (now (work .exit)) text r (stage convertAttach) ⌝ }

@@ -109,6 +109,7 @@ fn rewrite_binoms(work: &mut [u8], from: usize, n: usize, to: usize) -> usize
     count
 }
 
+// `binom(n, k)` becomes `\binom{n}{k}`, wherever its parenthesis is closed and a comma parts it.
 pub fn convert_binom(work: &mut [u8], text: Progress) -> Progress
     requires { ⌜ Ready (now work) text ⌝ }
     ensures { λ r. ⌜ Staged (now (work .entry)) (now (work .exit)) text r (stage convertBinom) ⌝ }

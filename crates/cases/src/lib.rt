@@ -95,6 +95,7 @@ fn rewrite_cases(work: &mut [u8], from: usize, n: usize, to: usize, i: usize, k:
     text::copy(work, behind, from + n - behind, to, text::CAP, written)
 }
 
+// `cases(a, b)` becomes the environment: the first call only, as the Rust has no loop here.
 pub fn convert_cases(work: &mut [u8], text: Progress) -> Progress
     requires { ⌜ Ready (now work) text ⌝ }
     ensures { λ r. ⌜ Staged (now (work .entry)) (now (work .exit)) text r (stage convertCases) ⌝ }

@@ -9,6 +9,7 @@ pub enum FirstLine {
     Neither,
 }
 
+// `d` or `i` and a newline, or the end; anything else is neither.
 pub fn first_line(input: &[u8]) -> FirstLine
     ensures { λ r. ⌜ asked r ≡ firstLine (now (input .entry)) ⌝ }
 {

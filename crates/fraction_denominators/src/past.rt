@@ -9,6 +9,7 @@ ghost use Rattle.spec.specs.Fractions.{factorials, exponent, power, braces, bra
 ghost use Rattle.text_symbols.specs.Places.{AheadTo};
 ghost use Rattle.fraction_operands.specs.Places.{Place, FoundAhead};
 
+// `!`, any number of them.
 pub fn past_factorials(s: &[u8], start: usize) -> usize
     requires { ⌜ Place (now s) start ⌝ }
     ensures { λ r. ⌜ AheadTo (now (s .entry)) start r (factorials (drop start (now (s .entry)))) ⌝ }
@@ -31,6 +32,7 @@ pub fn past_exponent(s: &[u8], start: usize) -> usize
     start
 }
 
+// `^` and its exponent.
 pub fn past_power(s: &[u8], start: usize) -> usize
     requires { ⌜ Place (now s) start ⌝ }
     ensures { λ r. ⌜ AheadTo (now (s .entry)) start r (power (drop start (now (s .entry)))) ⌝ }
@@ -53,6 +55,7 @@ pub fn past_braces(s: &[u8], start: usize) -> usize
     i
 }
 
+// A group in square brackets.
 pub fn past_bracket(s: &[u8], start: usize) -> usize
     requires { ⌜ Place (now s) start ⌝ }
     ensures { λ r. ⌜ AheadTo (now (s .entry)) start r (bracket (drop start (now (s .entry)))) ⌝ }

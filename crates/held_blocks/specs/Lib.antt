@@ -1,3 +1,4 @@
+-- What the contracts of `held_blocks` cite.
 pub mod Filing
 pub mod HoldOut
 pub mod Back

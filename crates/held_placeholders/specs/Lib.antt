@@ -1,3 +1,4 @@
+-- The Rust's numbered placeholders, and that marks and lists are the same.
 pub mod Placeholders
 pub mod Finding
 pub mod OneName

@@ -121,6 +121,7 @@ fn put_aligned(work: &mut [u8], from: usize, n: usize, to: usize) -> usize
     put_end(work, to, filled)
 }
 
+// Rows with `&` come into an `aligned` environment; without `&` only their breaks are doubled.
 pub fn convert_alignment(work: &mut [u8], text: Progress) -> Progress
     requires { ⌜ Ready (now work) text ⌝ }
     ensures { λ r. ⌜ Staged (now (work .entry)) (now (work .exit)) text r (stage convertAlignment) ⌝ }

@@ -96,6 +96,7 @@ fn drop_gaps(work: &mut [u8], from: usize, n: usize, to: usize) -> usize
     count
 }
 
+// The stage: `\alpha\;\text{dB}` becomes `\alpha\text{dB}`.
 pub fn drop_thin_space_after_commands(work: &mut [u8], text: Progress) -> Progress
     requires { ⌜ Ready (now work) text ⌝ }
     ensures { λ r. ⌜ Staged (now (work .entry)) (now (work .exit)) text r (stage dropThinSpaceAfterCommands) ⌝ }

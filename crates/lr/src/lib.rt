@@ -119,6 +119,7 @@ fn rewrite_lr(work: &mut [u8], from: usize, n: usize, to: usize) -> Ended
     Ended::Length(count)
 }
 
+// `lr([a])` becomes `\left[a\right]`. The last symbol is dropped unread, and a delimiter alone is number 8.
 pub fn convert_lr(work: &mut [u8], text: Progress) -> Progress
     requires { ⌜ Ready (now work) text ⌝ }
     ensures { λ r. ⌜ Staged (now (work .entry)) (now (work .exit)) text r convertLr ⌝ }

@@ -1,3 +1,4 @@
+-- What a plain formula prints, and that no two print alike.
 pub mod Tree
 pub mod Classes
 pub mod Nest

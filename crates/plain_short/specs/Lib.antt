@@ -1,2 +1,3 @@
+-- What the contracts of `plain_short` cite.
 pub mod Spelling
 pub mod Printed

@@ -144,6 +144,7 @@ fn rewrite_quotes(work: &mut [u8], from: usize, n: usize, to: usize) -> usize
     count
 }
 
+// The stage: `2 "dB"` becomes `2\;\text{dB}`. A last quote that is not closed is closed at the end.
 pub fn convert_text_quotes(work: &mut [u8], text: Progress) -> Progress
     requires { ⌜ Ready (now work) text ⌝ }
     ensures { λ r. ⌜ Staged (now (work .entry)) (now (work .exit)) text r (stage convertTextQuotes) ⌝ }

@@ -45,6 +45,7 @@ fn convert_scripts(work: &mut [u8], text: Progress, sign: u8) -> Progress
     wrap_multichar_scripts(work, blocked, sign)
 }
 
+// `x_(i + 1)` becomes `x_{i + 1}`, `x_max` becomes `x_{max}`.
 pub fn convert_subscripts(work: &mut [u8], text: Progress) -> Progress
     requires { ⌜ Ready (now work) text ⌝ }
     ensures { λ r. ⌜ Staged (now (work .entry)) (now (work .exit)) text r convertSubscripts ⌝ }
@@ -52,6 +53,7 @@ pub fn convert_subscripts(work: &mut [u8], text: Progress) -> Progress
     convert_scripts(work, text, b'_')
 }
 
+// The same for `^`.
 pub fn convert_superscripts(work: &mut [u8], text: Progress) -> Progress
     requires { ⌜ Ready (now work) text ⌝ }
     ensures { λ r. ⌜ Staged (now (work .entry)) (now (work .exit)) text r convertSuperscripts ⌝ }

@@ -1,3 +1,4 @@
+-- The definitions, in the order of the pipeline, and laws about them.
 pub mod Symbols
 pub mod Sweep
 pub mod Result

@@ -64,6 +64,7 @@ fn is_foreign(b: u8) -> bool
     !(is_between(b' ', b'~', b) | ((b == b'\t') | (b == b'\n')))
 }
 
+// The test of a class.
 pub fn is_in(class: Class, b: u8) -> bool
     ensures { λ r. ⌜ r ≡ member class b ⌝ }
 {

@@ -10,7 +10,7 @@ use Rattle.quotes.proofs.after_quote.Tie as tie
 
 -- the test of that symbol, as the definition has it
 test : (c : tie.After-is-alnum)
-    → (let x = getD (c .before .before .before .before .args .s .now) (c .before .before .run-end .result) 0 in (c .is-alnum .result || is "\"" (c .before .symbol .result)) ≡ (alnum x || is "\"" x))
+    → (let at-start : tie.Start = search in let x = getD (at-start .args .s .now) (c .before .before .run-end .result) 0 in (c .is-alnum .result || is "\"" (c .before .symbol .result)) ≡ (alnum x || is "\"" x))
 test c = ap (λ b. b || is "\"" (c .before .symbol .result)) (c .is-alnum .ensures) ∙ ap (λ x. alnum x || is "\"" x) (c .before .symbol .ensures)
 
 returns : tie.Need-returns

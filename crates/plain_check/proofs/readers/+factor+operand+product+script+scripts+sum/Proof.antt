@@ -111,13 +111,14 @@ factor-returns-4 t c =
 
 operand-returns : (t : ℕ) → operand-lts.Need-returns (operand-calls t) (reader-at 1 t) operand.Post
 operand-returns t c =
-    let start = c .before .before .before .before in
+    let start : operand-lts.Start (operand-calls t) (reader-at 1 t) operand.Post = search in
     rw (c .leaf .ensures) (operand-atom (start .args .s .now) (c .before .before .atom .ensures) (c .before .if1 .taken))
 
 operand-sum-requires : (t : ℕ) → operand-lts.Need-sum-requires (operand-calls t) (reader-at 1 t) operand.Post
 operand-sum-requires t c κs =
     let paren = c .before in
-    let s = paren .before .before .before .before .before .args .s .now in
+    let start : operand-lts.Start (operand-calls t) (reader-at 1 t) operand.Post = search in
+    let s = start .args .s .now in
     omega (arith, tail-size s (c .rest .ensures), byte-room s (code "(") (omega arith) (sym (paren .before .symbol .ensures) ∙ paren .if2 .taken))
 
 operand-closed-requires : (t : ℕ) → operand-lts.Need-closed-requires (operand-calls t) (reader-at 1 t) operand.Post

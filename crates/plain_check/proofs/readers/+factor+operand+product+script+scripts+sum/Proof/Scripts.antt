@@ -15,7 +15,7 @@ use Rattle.plain_check.proofs.readers.+factor+operand+product+script+sc
 
 pub script-returns : (t : ℕ) → script-lts.Need-returns (script-calls t) (script-at t) script.Post
 script-returns t c =
-    let start = c .before .before .before .before in
+    let start : script-lts.Start (script-calls t) (script-at t) script.Post = search in
     rw (c .leaf .ensures) (script-absent (start .args .sign) (start .args .s .now) (λ e. c .before .if1 .taken (c .before .before .symbol .ensures ∙ e)))
 
 pub script-returns-2 : (t : ℕ) → script-lts.Need-returns-2 (script-calls t) (script-at t) script.Post
@@ -38,8 +38,8 @@ script-operand-requires t c κs =
 
 pub script-grouped-requires : (t : ℕ) → script-lts.Need-enclosed-script-requires (script-calls t) (script-at t) script.Post
 script-grouped-requires t c κs =
-    let rest = c .before .before .before .before in
-    let start = rest .before .before .before .before in
+    let rest : script-lts.After-rest (script-calls t) (script-at t) script.Post = search in
+    let start : script-lts.Start (script-calls t) (script-at t) script.Post = search in
     omega (arith, tail-size (start .args .s .now) (rest .rest .ensures))
 
 pub script-returns-3 : (t : ℕ) → script-lts.Need-returns-3 (script-calls t) (script-at t) script.Post
@@ -52,7 +52,7 @@ script-returns-3 t c =
     (script-group (start .args .sign) (start .args .s .now) (start .pre .1) (sym (stands .before .symbol .ensures) ∙ stands .if1 .left) (rest .rest .ensures)
     (ap alnum (sym (tested .before .symbol2 .ensures)) ∙ sym (tested .is-alnum .ensures) ∙ c .before .before .if2 .left) (c .before .operand .ensures))
 
-scripts-front : (t : ℕ) (c : scripts-lts.After-rest (scripts-calls t) (reader-at 1 t) scripts.Post) → Front (readScript (code "_")) 0 (c .before .before .before .before .before .before .args .s .now) (c .before .before .p .given .0 .0) (c .rest .result .now)
+scripts-front : (t : ℕ) (c : scripts-lts.After-rest (scripts-calls t) (reader-at 1 t) scripts.Post) → (let start : scripts-lts.Start (scripts-calls t) (reader-at 1 t) scripts.Post = search in Front (readScript (code "_")) 0 (start .args .s .now) (c .before .before .p .given .0 .0) (c .rest .result .now))
 scripts-front t c =
     let found = c .before .before in
     record { answers = rw (found .p .given .1) at (found .before .before .script .ensures); behind = c .rest .ensures }
@@ -65,7 +65,7 @@ scripts-script-requires-2 t c κs = omega (arith, scripts-split (scripts-front t
 
 pub scripts-joined-requires : (t : ℕ) → scripts-lts.Need-adjoined-requires (scripts-calls t) (reader-at 1 t) scripts.Post
 scripts-joined-requires t c κs =
-    let start = c .before .before .before .before .before .before .before in
+    let start : scripts-lts.Start (scripts-calls t) (reader-at 1 t) scripts.Post = search in
     fit (start .good .0 .0) (scripts-split (scripts-front t (c .before))) (c .script2 .ensures .within)
 
 pub scripts-returns-2 : (t : ℕ) → scripts-lts.Need-returns-2 (scripts-calls t) (reader-at 1 t) scripts.Post
