@@ -55,6 +55,7 @@ enum jistranu_answer {
  * The table is any number of records, one after the other. A record is a header of two bytes, name length times 1,024 plus
  * LaTeX length, most significant byte first; then the name; then the LaTeX. A name is letters and digits and begins with a
  * letter; names of one letter are read and left alone. LaTeX is ASCII text, tabs and newlines, without `$`.
+ * Longer names are applied first, names of equal length in the order of their bytes; the order of the records does not matter.
  */
 uint64_t jistranu_typst_to_latex(
     const uint8_t *formula, size_t formula_len,

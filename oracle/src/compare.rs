@@ -1,8 +1,8 @@
 //! The library against the judge, call by call: the answer, the count, the bytes, and what both buffers hold afterwards. What is
-//! accepted goes through the unchanged `typst_to_latex` as a whole too.
+//! accepted goes through `typst_to_latex` as a whole too: that of the test copy, and the unchanged one where it has one order only.
 
 use super::cases::{hex, Recorded};
-use super::definitions::in_order;
+use super::definitions::one_order;
 use super::judge::{judge, refused_before_stages, Answer, Case};
 use super::rng::Rng;
 use super::table::Record;
@@ -102,16 +102,14 @@ fn called(case: &Case, salt: usize) -> Result<Answer, String> {
     })
 }
 
-/// The unchanged `typst_to_latex`, where the table leaves it one order only.
-fn whole(case: &Case) -> Option<Vec<u8>> {
-    let records = refused_before_stages(case).ok()?;
-    let lengths: Vec<usize> = in_order(&records).iter().map(|r| r.name.len()).filter(|&n| n > 1).collect();
-    if lengths.windows(2).any(|pair| pair[0] == pair[1]) {
-        return None;
-    }
+/// `typst_to_latex` as a whole: the test copy's, and the unchanged one where the table leaves it one order only.
+fn whole(case: &Case) -> (Vec<u8>, Option<Vec<u8>>) {
+    let records = refused_before_stages(case).expect("an accepted case");
+    let unchanged = one_order(&records);
     let map: HashMap<String, String> = records.into_iter().map(|Record { name, latex }| (name, latex)).collect();
     let formula = std::str::from_utf8(&case.formula).expect("only own bytes");
-    Some(crate::typst_to_latex(formula, &map, case.display).into_bytes())
+    let copy = crate::changed::typst_to_latex(formula, &map, case.display).into_bytes();
+    (copy, unchanged.then(|| crate::typst_to_latex(formula, &map, case.display).into_bytes()))
 }
 
 struct Difference {
@@ -126,7 +124,8 @@ struct Difference {
 struct Findings {
     by_number: [u64; 11],
     by_family: [u64; generate::FAMILIES.len()],
-    whole: u64,
+    copy: u64,
+    unchanged: u64,
     differences: Vec<Difference>,
 }
 
@@ -137,10 +136,10 @@ impl Findings {
         let library = called(&case, index as usize);
         let mut same = library.as_ref() == Ok(&answer);
         if same && answer.number() == 0 {
-            if let Some(latex) = whole(&case) {
-                self.whole += 1;
-                same = latex == answer.bytes();
-            }
+            let (copy, unchanged) = whole(&case);
+            self.copy += 1;
+            self.unchanged += u64::from(unchanged.is_some());
+            same = copy == answer.bytes() && unchanged.is_none_or(|latex| latex == answer.bytes());
         }
         if !same {
             self.differences.push(Difference { index, family, case, judge: answer, library });
@@ -151,7 +150,8 @@ impl Findings {
         let add = |sums: &mut [u64], more: &[u64]| sums.iter_mut().zip(more).for_each(|(sum, n)| *sum += n);
         add(&mut self.by_number, &other.by_number);
         add(&mut self.by_family, &other.by_family);
-        self.whole += other.whole;
+        self.copy += other.copy;
+        self.unchanged += other.unchanged;
         self.differences.extend(other.differences);
     }
 }
@@ -179,7 +179,10 @@ pub fn compare(seed: u64, n: u64, recorded: &[Recorded]) -> bool {
 
 fn print(seed: u64, n: u64, recorded: usize, findings: &Findings) {
     println!("{recorded} recorded cases and {n} generated ones, seed {seed}: {} differences", findings.differences.len());
-    println!("{} of them by the unchanged typst_to_latex as a whole too\n", findings.whole);
+    println!(
+        "{} of them by the test copy's typst_to_latex as a whole too, {} by the unchanged one\n",
+        findings.copy, findings.unchanged
+    );
     println!("| answer | cases |\n|---|---|");
     for (number, cases) in findings.by_number.iter().enumerate() {
         println!("| {} | {cases} |", if number == 0 { "done".to_string() } else { format!("refused {number}") });
@@ -211,6 +214,8 @@ fn show(title: &str, Difference { index, family, case, judge, library }: &Differ
     println!("judge   {}", shown(judge));
     println!("library {}", library.as_ref().map_or_else(Clone::clone, shown));
     if library.as_ref() == Ok(judge) {
-        println!("Rust    {:?}", whole(case).map(|latex| String::from_utf8_lossy(&latex).into_owned()));
+        let (copy, unchanged) = whole(case);
+        println!("test copy {:?}", String::from_utf8_lossy(&copy));
+        println!("Rust    {:?}", unchanged.map(|latex| String::from_utf8_lossy(&latex).into_owned()));
     }
 }

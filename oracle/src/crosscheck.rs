@@ -1,8 +1,7 @@
 //! The cross-check: the judge's answers against what the unchanged functions of `math_conv.rs` really do.
 
-use super::definitions::{in_order, DEFINITIONS_MARK};
+use super::definitions::{one_order, DEFINITIONS_MARK};
 use super::judge::{self, refused_before_stages, typst_to_latex, Case, Stages, Trouble};
-use super::table::Record;
 use super::words::WORDS_MARK;
 use std::collections::{BTreeMap, HashMap};
 use std::panic::{catch_unwind, AssertUnwindSafe};
@@ -58,42 +57,13 @@ fn unless_panic<T>(f: impl FnOnce() -> T) -> Option<T> {
     catch_unwind(AssertUnwindSafe(f)).ok()
 }
 
-/// How many orders the names of equal length allow, names of one byte left out (the Rust skips them).
-fn orders(records: &[Record]) -> usize {
-    let lengths: Vec<usize> = in_order(records).iter().map(|r| r.name.len()).filter(|&n| n > 1).collect();
-    let (mut orders, mut run) = (1usize, 1);
-    for pair in lengths.windows(2) {
-        run = if pair[0] == pair[1] { run + 1 } else { 1 };
-        orders = orders.saturating_mul(run);
-    }
-    orders
-}
-
-/// A hash map, and the records in the order in which it has them.
-fn hash_map(records: &[Record]) -> (HashMap<String, String>, Vec<Record>) {
-    let map: HashMap<String, String> = records.iter().map(|r| (r.name.clone(), r.latex.clone())).collect();
-    let own = map.iter().map(|(name, latex)| Record { name: name.clone(), latex: latex.clone() }).collect();
-    (map, own)
-}
-
-/// A hash map that has names of equal length in the table's order; where too many orders would have to be tried, any, and
-/// the judge then takes the records in that map's order.
-fn hash_map_in_order(records: &[Record], findings: &mut Findings) -> (HashMap<String, String>, Vec<Record>) {
-    let names = |records: &[Record]| -> Vec<String> {
-        in_order(records).iter().map(|r| r.name.clone()).filter(|name| name.len() > 1).collect()
-    };
-    let orders = orders(records);
-    if orders <= 720 {
-        for _ in 0..30_000 {
-            let (map, own) = hash_map(records);
-            if names(&own) == names(records) {
-                findings.count(if orders > 1 { "table's order found among several" } else { "one order only" });
-                return (map, records.to_vec());
-            }
-        }
-    }
-    findings.count("judged by an order of the hash map's");
-    hash_map(records)
+/// What the Rust is asked with: its definitions, and whether the unchanged Rust has one order of them only. Where it has several, the
+/// test copy is asked, whose list of definitions is sorted.
+struct Asked<'a> {
+    case: &'a Case,
+    formula: &'a str,
+    map: HashMap<String, String>,
+    one_order: bool,
 }
 
 pub fn check(case: &Case, findings: &mut Findings) {
@@ -101,62 +71,62 @@ pub fn check(case: &Case, findings: &mut Findings) {
         Ok(records) => records,
         Err(number) => return findings.count(&format!("{number} before the stages")),
     };
-    let (map, records) = hash_map_in_order(&records, findings);
     let formula = std::str::from_utf8(&case.formula).expect("only own bytes");
+    let map = records.iter().map(|r| (r.name.clone(), r.latex.clone())).collect();
+    let asked = Asked { case, formula, map, one_order: one_order(&records) };
+    findings.count(if asked.one_order { "one order only" } else { "several orders, asked of the test copy" });
     let run = |limit: usize| typst_to_latex(formula, &records, case.display, &mut Stages::new(limit));
     match run(judge::STAGE_SYMBOLS) {
         Ok(latex) => {
             let short = latex.len() > case.output;
             findings.count(if short { "10 after a finished text" } else { "0 accepted" });
-            same_text("accepted", case, formula, &map, &latex, findings);
+            same_text("accepted", &asked, &latex, findings);
         }
         Err(trouble) if trouble.number == 5 => {
             // The same stages with more room must still be the Rust's.
             findings.count("5 overgrown");
             match run(60_000) {
-                Ok(latex) => same_text("overgrown, followed to its end", case, formula, &map, &latex, findings),
+                Ok(latex) => same_text("overgrown, followed to its end", &asked, &latex, findings),
                 Err(other) if other.number == 5 => findings.count("5: above 60,000 symbols, not followed"),
                 Err(other) => {
                     findings.count(&format!("5: another number ({}) waits behind", other.number));
-                    check_trouble(&other, case, formula, &map, findings);
+                    check_trouble(&other, &asked, findings);
                 }
             }
         }
         Err(trouble) => {
             findings.count(&format!("{} on the way", trouble.number));
-            check_trouble(&trouble, case, formula, &map, findings);
+            check_trouble(&trouble, &asked, findings);
         }
     }
 }
 
-fn same_text(
-    what: &str,
-    case: &Case,
-    formula: &str,
-    map: &HashMap<String, String>,
-    latex: &str,
-    findings: &mut Findings,
-) {
-    match unless_panic(|| crate::typst_to_latex(formula, map, case.display)) {
-        None => findings.disagree(&format!("{what}: the Rust panics"), case),
-        Some(rust) if rust == latex => findings.count(&format!("{what}: the Rust's bytes")),
-        Some(_) => findings.disagree(&format!("{what}: other bytes"), case),
+fn same_text(what: &str, asked: &Asked, latex: &str, findings: &mut Findings) {
+    let Asked { case, formula, map, one_order } = asked;
+    let copy = unless_panic(|| crate::changed::typst_to_latex(formula, map, case.display));
+    let same = |rust: &Option<String>| rust.as_deref() == Some(latex);
+    match copy {
+        None => findings.disagree(&format!("{what}: the test copy panics"), case),
+        copy if same(&copy) => findings.count(&format!("{what}: the test copy's bytes")),
+        Some(_) => findings.disagree(&format!("{what}: other bytes than the test copy's"), case),
+    }
+    if *one_order {
+        match unless_panic(|| crate::typst_to_latex(formula, map, case.display)) {
+            None => findings.disagree(&format!("{what}: the Rust panics"), case),
+            rust if same(&rust) => findings.count(&format!("{what}: the Rust's bytes")),
+            Some(_) => findings.disagree(&format!("{what}: other bytes"), case),
+        }
     }
 }
 
-fn check_trouble(
-    trouble: &Trouble,
-    case: &Case,
-    formula: &str,
-    map: &HashMap<String, String>,
-    findings: &mut Findings,
-) {
+fn check_trouble(trouble: &Trouble, asked: &Asked, findings: &mut Findings) {
+    let Asked { case, formula, map, .. } = asked;
     match trouble.number {
-        6 => lost_block(trouble, case, map, findings),
+        6 => lost_block(trouble, asked, findings),
         7 => unsettled(trouble, case, findings),
         8 => {
             let panics = unless_panic(|| crate::convert_lr(&trouble.text)).is_none()
-                && unless_panic(|| crate::typst_to_latex(formula, map, case.display)).is_none();
+                && unless_panic(|| crate::changed::typst_to_latex(formula, map, case.display)).is_none();
             if panics {
                 findings.count("8: convert_lr panics, and so does the whole");
             } else {
@@ -168,14 +138,19 @@ fn check_trouble(
     }
 }
 
-/// The unchanged function leaves the mark in its text.
-fn lost_block(trouble: &Trouble, case: &Case, map: &HashMap<String, String>, findings: &mut Findings) {
+/// The unchanged function leaves the mark in its text. Where it has several orders, the whole of the test copy does, or a later stage of it
+/// panics.
+fn lost_block(trouble: &Trouble, asked: &Asked, findings: &mut Findings) {
+    let Asked { case, formula, map, one_order } = asked;
     if trouble.at == DEFINITIONS_MARK as usize {
-        let text = crate::apply_definitions_outside_text(&trouble.text, map);
-        if text.contains(DEFINITIONS_MARK) {
-            findings.count("6: definitions leave U+FFFE");
-        } else {
-            findings.disagree("6: definitions leave no mark", case);
+        let text = match one_order {
+            true => Some(crate::apply_definitions_outside_text(&trouble.text, map)),
+            false => unless_panic(|| crate::changed::typst_to_latex(formula, map, case.display)),
+        };
+        match text {
+            Some(text) if text.contains(DEFINITIONS_MARK) => findings.count("6: definitions leave U+FFFE"),
+            Some(_) => findings.disagree("6: definitions leave no mark", case),
+            None => findings.exception("6: a later stage panics", case),
         }
         return;
     }

@@ -34,11 +34,17 @@ pub fn refuse_lost_block(result: &str, mark: char, input: &str) -> Result<(), Tr
     Ok(())
 }
 
-/// Longer names first, names of equal length in the table's order (the Rust's order among those is open).
+/// Longer names first, names of equal length in ascending byte order (A1).
 pub fn in_order(records: &[Record]) -> Vec<&Record> {
     let mut sorted_defs: Vec<&Record> = records.iter().collect();
-    sorted_defs.sort_by_key(|record| std::cmp::Reverse(record.name.len()));
+    sorted_defs.sort_by(|a, b| b.name.len().cmp(&a.name.len()).then_with(|| a.name.as_bytes().cmp(b.name.as_bytes())));
     sorted_defs
+}
+
+/// Whether the unchanged Rust has one order only: no two names of two bytes or more have one length.
+pub fn one_order(records: &[Record]) -> bool {
+    let lengths: Vec<usize> = in_order(records).iter().map(|r| r.name.len()).filter(|&n| n > 1).collect();
+    lengths.windows(2).all(|pair| pair[0] != pair[1])
 }
 
 /// The text with each `\text{` block held out, a numbered placeholder in its stead, and the blocks.

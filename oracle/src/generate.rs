@@ -6,7 +6,7 @@ use super::{lengths, pieces, plain, tables, traps};
 use super::word_tables::{FUNCTION_MAPPINGS, GREEK_LETTERS, OPERATOR_REPLACEMENTS, WORD_MAPPINGS};
 
 /// Number, name, and how often a generated case is of this family (0: written by hand, see traps.txt).
-pub const FAMILIES: [(u8, &str, usize); 26] = [
+pub const FAMILIES: [(u8, &str, usize); 27] = [
     (0, "document", 0),
     (1, "readings", 0),
     (2, "order", 0),
@@ -33,6 +33,7 @@ pub const FAMILIES: [(u8, &str, usize); 26] = [
     (23, "rounds", 60),
     (24, "two refusals", 80),
     (25, "buffers", 500),
+    (26, "equal lengths", 600),
 ];
 
 pub fn family_number(name: &str) -> Option<u8> {
@@ -73,7 +74,8 @@ pub fn of_family(family: u8, rng: &mut Rng, depth: usize) -> Case {
             let text = plain::plain(rng, deep);
             pieces::mutate(rng, &text)
         }
-        "defined" => return defined(rng, deep),
+        "defined" => return defined(rng, tables::good, deep),
+        "equal lengths" => return defined(rng, tables::of_one_length, deep),
         "tables" => return with_fault(rng, deep),
         "long" => return long(rng),
         "growth" => return growth(rng),
@@ -182,8 +184,8 @@ fn finishing(rng: &mut Rng, deep: usize) -> String {
     text
 }
 
-fn defined(rng: &mut Rng, deep: usize) -> Case {
-    let table = tables::good(rng);
+fn defined(rng: &mut Rng, table: fn(&mut Rng) -> Vec<u8>, deep: usize) -> Case {
+    let table = table(rng);
     let names = tables::names(&table);
     let mut text = String::new();
     for _ in 0..rng.between(1, 6) {

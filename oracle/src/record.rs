@@ -9,7 +9,7 @@ use super::table::record_bytes;
 use super::{lengths, tables, traps};
 
 /// How many cases of each generated family, and how many bytes their formulas may have.
-const SHARES: [(&str, usize, usize); 13] = [
+const SHARES: [(&str, usize, usize); 14] = [
     ("names", 400, 100),
     ("expressions", 900, 110),
     ("soup", 700, 90),
@@ -23,6 +23,7 @@ const SHARES: [(&str, usize, usize); 13] = [
     ("near plain", 200, 110),
     ("defined", 1_000, 110),
     ("buffers", 900, 90),
+    ("equal lengths", 300, 110),
 ];
 
 struct Recorder {

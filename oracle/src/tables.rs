@@ -44,6 +44,35 @@ pub fn good(rng: &mut Rng) -> Vec<u8> {
     names.iter().flat_map(|name| record_bytes(name.as_bytes(), latex(rng).as_bytes())).collect()
 }
 
+/// A good table with many names of one length, whose LaTeX holds others of them: the order in which they are applied shows.
+pub fn of_one_length(rng: &mut Rng) -> Vec<u8> {
+    let length = rng.between(2, 3);
+    let letters = rng.pick(&["aB", "a0Z", "x1Ab"]).as_bytes();
+    let name = |rng: &mut Rng| -> String {
+        let first = rng.pick(&["a", "B", "x"]).to_string();
+        (1..length).fold(first, |name, _| name + &char::from(rng.pick(letters)).to_string())
+    };
+    let mut names: Vec<String> = Vec::new();
+    for _ in 0..rng.between(2, 12) {
+        let name = name(rng);
+        if !names.contains(&name) {
+            names.push(name);
+        }
+    }
+    let mut table = Vec::new();
+    for own in &names {
+        let (first, second) = (&names[rng.below(names.len())], &names[rng.below(names.len())]);
+        let latex = match rng.below(5) {
+            0 => latex(rng),
+            1 | 2 => first.clone(),
+            3 => format!("{first} {second}"),
+            _ => format!("{first}/{second}1"),
+        };
+        table.extend(record_bytes(own.as_bytes(), latex.as_bytes()));
+    }
+    table
+}
+
 /// The names of a good table in its order, so that a formula can use them.
 pub fn names(table: &[u8]) -> Vec<String> {
     super::table::read(table).unwrap_or_default().into_iter().map(|record| record.name).collect()

@@ -15,9 +15,11 @@ use borrow.Author.Tests.{eq-eqb, ne-eqb}
 use Rattle.spec.specs.Sweep.{sweep}
 use Rattle.spec.specs.Result.{Result, passed, refused, _then_, mostSymbols}
 use Rattle.spec.specs.Held.{Held, withText, heldStage, holdTexts, putBack}
-use Rattle.spec.specs.Table.{Definition, definitions, byLength}
+use Rattle.spec.specs.Table.{Definition, definitions, inOrder}
 use Rattle.spec.specs.Definitions.{defined, applyDefinition, applyDefinitions, applyDefinitionsOutsideText}
-use Rattle.spec.specs.Laws.Table.{rearranged-by-length, sound-name-some}
+use Rattle.spec.specs.Laws.Order.{rearranged-in-order}
+use Rattle.spec.specs.Laws.Table.{sound-name-some}
+use Rattle.spec.specs.Laws.Order.{rearranged-in-order}
 use Rattle.text_symbols.specs.Parts.{length-part}
 use Rattle.text.specs.Stage.{Ready, shown}
 use Rattle.text.specs.declared.Progress.{Progress}
@@ -28,9 +30,9 @@ use Rattle.name_entry.specs.Bounded.{EntryTextsFit}
 use Rattle.name_entry.specs.Sized.{sized, FitsWithBlocks, Applied, StagedWithin, Remaining, remaining-none, remaining-step}
 use Rattle.table.specs.declared.Record.{Record}
 use Rattle.table.specs.declared.order.Cursor.{Cursor}
+use Rattle.table.specs.declared.order.Cursor.the-variants.{Start, Behind}
 use Rattle.table.specs.Reading.{Lies, Short, definitionAt, length-name}
-use Rattle.table.specs.Order.{remaining, Begins}
-use Rattle.table.specs.Sorted.{begins-order}
+use Rattle.table.specs.Order.{remaining, remaining-start}
 use Rattle.table.specs.Sound.{definitions-some}
 use Rattle.held_stages.specs.Outside.{Extra}
 use Rattle.held_stages.specs.Carried.{held-sized}
@@ -106,10 +108,10 @@ module _ {table : List ℕ} {r : Record} (usable : Usable table r) where
 -- ---- the loop
 pub record DefinitionsLeft (table : List ℕ) (c : Cursor) (ds : List Definition) (extra : ℕ) (w₀ w : List ℕ) (p₀ p : Progress) : Type 0 where
   pub sound : EverySound (remaining table c)
-  pub stages : Remaining w₀ w p₀ p extra (sizedDefinitions extra (byLength ds)) (sizedDefinitions extra (remaining table c))
+  pub stages : Remaining w₀ w p₀ p extra (sizedDefinitions extra (inOrder ds)) (sizedDefinitions extra (remaining table c))
 
-module _ (table : List ℕ) (c c′ : Cursor) (r : Record) (next : remaining table c ≡ definitionAt table r ∷ remaining table c′) where
-  sound-both : EverySound (remaining table c) → SoundDefinition (definitionAt table r) × EverySound (remaining table c′)
+module _ (table : List ℕ) (c : Cursor) (r : Record) (next : remaining table c ≡ definitionAt table r ∷ remaining table (Behind r)) where
+  sound-both : EverySound (remaining table c) → SoundDefinition (definitionAt table r) × EverySound (remaining table (Behind r))
   unfolding EverySound
   sound-both all = subst EverySound next all
 
@@ -119,29 +121,29 @@ module _ (table : List ℕ) (c c′ : Cursor) (r : Record) (next : remaining tab
   pub left-more :
       {ds : List Definition} {extra : ℕ} {w₀ w w′ : List ℕ} {p₀ p p′ : Progress} → DefinitionsLeft table c ds extra w₀ w p₀ p
       → StagedWithin w w′ p p′ extra (sizedDefinition extra (definitionAt table r))
-      → DefinitionsLeft table c′ ds extra w₀ w′ p₀ p′
+      → DefinitionsLeft table (Behind r) ds extra w₀ w′ p₀ p′
   unfolding sizedDefinitions
   left-more {extra = extra} left a =
       record {
         sound = sound-both (left .sound) .1;
-        stages = remaining-step (left .stages) (sizedDefinitions extra (remaining table c′)) a (λ s. ap (λ l. sizedDefinitions extra l s) next);
+        stages = remaining-step (left .stages) (sizedDefinitions extra (remaining table (Behind r))) a (λ s. ap (λ l. sizedDefinitions extra l s) next);
       }
 
 pub left-done : (table : List ℕ) (c : Cursor) (extra : ℕ) → remaining table c ≡ [] → (s : List ℕ) → sizedDefinitions extra (remaining table c) s ≡ passed s
 unfolding sizedDefinitions
 left-done table c extra e s = ap (λ l. sizedDefinitions extra l s) e
 
-pub order-sound : (table : List ℕ) (ds : List Definition) → definitions table ≡ some ds → EverySound (byLength ds)
-order-sound table ds e = sound-order (rearranged-by-length ds) (sound-table ds (definitions-some table ds e .1))
+pub order-sound : (table : List ℕ) (ds : List Definition) → definitions table ≡ some ds → EverySound (inOrder ds)
+order-sound table ds e = sound-order (rearranged-in-order ds) (sound-table ds (definitions-some table ds e .1))
 
 pub left-none :
-    (table : List ℕ) (c : Cursor) (ds : List Definition) (extra : ℕ) {w : List ℕ} {p : Progress} → Begins table c → definitions table ≡ some ds → Ready w p → FitsWithBlocks extra p
-    → DefinitionsLeft table c ds extra w w p p
-left-none table c ds extra {w} {p} begins e ready within =
-    let all = sym (begins-order table c ds begins e) in
+    (table : List ℕ) (ds : List Definition) (extra : ℕ) {w : List ℕ} {p : Progress} → definitions table ≡ some ds → Ready w p → FitsWithBlocks extra p
+    → DefinitionsLeft table Start ds extra w w p p
+left-none table ds extra {w} {p} e ready within =
+    let all = sym (remaining-start table ds e) in
     record {
       sound = subst EverySound all (order-sound table ds e);
-      stages = subst (λ l. Remaining w w p p extra (sizedDefinitions extra (byLength ds)) (sizedDefinitions extra l)) all (remaining-none (sizedDefinitions extra (byLength ds)) ready within);
+      stages = subst (λ l. Remaining w w p p extra (sizedDefinitions extra (inOrder ds)) (sizedDefinitions extra l)) all (remaining-none (sizedDefinitions extra (inOrder ds)) ready within);
     }
 
 -- ---- what is held
@@ -177,6 +179,6 @@ module _ (extra : ℕ) where
   definitions-kept ds sound h e made t same =
       definitions-made ds sound made (definitions-held ds sound h e made ∙ ap (λ q. q then (λ t. passed (withText h t))) same)
 
-pub outside-by-held : (ds : List Definition) (s : List ℕ) → applyDefinitionsOutsideText ds s ≡ (applyDefinitions ds (holdTexts s) then putBack)
+pub outside-by-held : (ds : List Definition) (s : List ℕ) → applyDefinitionsOutsideText ds s ≡ (applyDefinitions (inOrder ds) (holdTexts s) then putBack)
 unfolding applyDefinitionsOutsideText
 outside-by-held ds s = refl

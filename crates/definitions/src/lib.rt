@@ -1,14 +1,14 @@
 // The definitions of the table, applied outside of `\text{..}` blocks.
 use name_entry::Bounds;
 use table::Cursor;
-use table::NextRecord;
+use table::Reading;
 use table::Record;
 use text::Progress;
 ghost use mathlib.Core.Path.{_≡_};
 ghost use mathlib.Core.Bool.{false};
 ghost use mathlib.Core.List.{List};
 ghost use mathlib.Core.Option.{some};
-ghost use Rattle.spec.specs.Table.{Definition, definitions, byLength};
+ghost use Rattle.spec.specs.Table.{Definition, definitions, inOrder};
 ghost use Rattle.spec.specs.Definitions.{applyDefinitionsOutsideText};
 ghost use Rattle.text.specs.Stage.{Ready, Answered};
 ghost use Rattle.name_entry.specs.Sized.{FitsWithBlocks, StagedWithin};
@@ -46,21 +46,21 @@ fn apply_definition(
     )
 }
 
-// Applies all of them, longer names first, each a stage of its own.
+// Applies all of them in their order, each a stage of its own.
 fn apply_definitions(work: &mut [u8], text: Progress, extra: usize, table: &[u8]) -> Progress
     requires { ⌜ Ready (now work) text ⌝ }
     requires { ⌜ FitsWithBlocks extra text ⌝ }
     requires { ⌜ refused (definitions (now table)) ≡ false ⌝ }
-    ensures { λ r. ⌜ ((ds : List Definition) → definitions (now (table .entry)) ≡ some ds → StagedWithin (now (work .entry)) (now (work .exit)) text r extra (sizedDefinitions extra (byLength ds))) ⌝ }
+    ensures { λ r. ⌜ ((ds : List Definition) → definitions (now (table .entry)) ≡ some ds → StagedWithin (now (work .entry)) (now (work .exit)) text r extra (sizedDefinitions extra (inOrder ds))) ⌝ }
 {
     let mut done = text;
-    let mut cursor = Cursor::start(table);
+    let mut cursor = Cursor::Start;
     loop {
-        let NextRecord::Next(found, next) = cursor.next(table) else {
+        let Reading::Whole(found) = table::next(table, cursor) else {
             return done;
         };
         done = apply_definition(work, done, extra, table, found);
-        cursor = next;
+        cursor = Cursor::Behind(found);
     }
 }
 
@@ -69,7 +69,7 @@ pub fn apply_definitions_outside_text(work: &mut [u8], text: Progress, table: &[
     requires { ⌜ Ready (now work) text ⌝ }
     requires { ⌜ UnmarkedProgress (now work) text ⌝ }
     requires { ⌜ refused (definitions (now table)) ≡ false ⌝ }
-    ensures { λ r. ⌜ ((ds : List Definition) → definitions (now (table .entry)) ≡ some ds → Answered (now (work .entry)) (now (work .exit)) text r (applyDefinitionsOutsideText (byLength ds))) ⌝ }
+    ensures { λ r. ⌜ ((ds : List Definition) → definitions (now (table .entry)) ≡ some ds → Answered (now (work .entry)) (now (work .exit)) text r (applyDefinitionsOutsideText ds)) ⌝ }
 {
     let Progress::Text(from, n) = text else {
         return text;

@@ -12,10 +12,9 @@ use borrow.Author.Tests.{le-ltb}
 use Rattle.spec.specs.Symbols.{foreign, any}
 use Rattle.spec.specs.Result.{Result, passed, refused, _then_}
 use Rattle.spec.specs.Rows.{Row}
-use Rattle.spec.specs.Table.{Definition}
-use Rattle.spec.specs.Pipeline.{mostFormula, leastWork, admitted, typstToLatex, fitting, converted, answerOf, outputAfter, workAfter, Call}
+use Rattle.spec.specs.Pipeline.{mostFormula, leastWork, definitionsOr, admitted, typstToLatex, fitting, converted, answerOf, outputAfter, workAfter, Call}
 use Rattle.spec.specs.Starred.{starred, starred-hold}
-use Rattle.plain_printing.specs.Calls.{empty-table, order-none}
+use Rattle.plain_printing.specs.Calls.{empty-table}
 use Rattle.math_conv.specs.Answer.{meaning}
 use Rattle.math_conv.specs.declared.Answer.{Answer}
 use Rattle.math_conv.specs.declared.Answer.the-variants.{Done, Refused}
@@ -38,17 +37,16 @@ module _ (formula latex : List ℕ) (short : ltb mostFormula (length formula) �
   fits : fitting output latex ≡ passed latex
   fits = rw (le-ltb (length output) (length latex) room)
 
-  gives : converted [] formula [] true work output ≡ passed latex
+  gives : converted formula [] true work output ≡ passed latex
   unfolding converted
-  gives = ap (λ r. r then typstToLatex [] true then fitting output) admits ∙ ap (λ r. r then fitting output) converts ∙ fits
+  gives = ap (λ r. r then typstToLatex (definitionsOr []) true then fitting output) admits ∙ ap (λ r. r then fitting output) converts ∙ fits
 
   pub call-gives : {answer : Answer} {work′ output′ : List ℕ} → Call formula [] true work output (meaning answer) work′ output′ → Gives latex work output answer work′ output′
   call-gives {answer} c =
-      let same = ap (λ (order : List Definition). converted order formula [] true work output) (order-none [] empty-table (c .order) (c .ordered)) ∙ gives in
       record {
-        answers = means-done answer (c .answers ∙ ap answerOf same);
-        clears = c .clears ∙ ap (λ r. workAfter r work) same;
-        writes = c .writes ∙ ap (λ r. outputAfter r output) same;
+        answers = means-done answer (c .answers ∙ ap answerOf gives);
+        clears = c .clears ∙ ap (λ r. workAfter r work) gives;
+        writes = c .writes ∙ ap (λ r. outputAfter r output) gives;
       }
 
 -- ---- the table

@@ -1,10 +1,10 @@
 -- Reading stops one byte behind the limits of a formula and of a table, and what is converted is the same as of the whole. Assumes nothing.
 --     pastFormula, ..    how much is read
 --     converted-cut      a call on what was read is converted as a call on all that there is to read
-use mathlib.Core.Path.{_≡_, refl, sym, ap, _∙_}
+use mathlib.Core.Path.{_≡_, refl, sym, ap, ap₂, _∙_}
 use mathlib.Core.Bool.{Bool, true, false, cond}
 use mathlib.Core.List.{List, [], _∷_}
-use mathlib.Core.Option.{none}
+use mathlib.Core.Option.{Option, none, Option·getD}
 use Prim.Native.Nat.{ℕ, _+_, _<_}
 use native.Mathlib.Omega.{arith}
 use lib.Dec.{ltb}
@@ -15,7 +15,8 @@ use Rattle.spec.specs.Symbols.{foreign, any}
 use Rattle.spec.specs.Result.{Result, refused, _then_}
 use Rattle.spec.specs.Table.{Definition, definitions, mostBytes}
 use Rattle.spec.specs.Program.{firstLine, formulaOf}
-use Rattle.spec.specs.Pipeline.{mostFormula, leastWork, admitted, typstToLatex, fitting, converted}
+use Rattle.spec.specs.Laws.Table.{admitted-same}
+use Rattle.spec.specs.Pipeline.{mostFormula, leastWork, readable, admitted, typstToLatex, fitting, converted}
 
 -- one byte more than a formula, an input (a first line, then the formula) and a table may have
 abbrev pub pastFormula : ℕ
@@ -69,22 +70,14 @@ long-refused formula table work h = go (ltb (length work) leastWork) refl
     go true e = rw (e, admitted)
     go false e = rw (e, admitted, lt-ltb mostFormula (length formula) h)
 
-same-admitted : (formula table read work : List ℕ) → definitions read ≡ definitions table → admitted formula read work ≡ admitted formula table work
-same-admitted formula table read work e = go (ltb (length work) leastWork) (ltb mostFormula (length formula)) (any foreign formula) refl refl refl
-  where
-    go : (a b c : Bool) → ltb (length work) leastWork ≡ a → ltb mostFormula (length formula) ≡ b → any foreign formula ≡ c → admitted formula read work ≡ admitted formula table work
-    go true b c p q r = rw (p, admitted)
-    go false true c p q r = rw (p, admitted, q)
-    go false false true p q r = rw (p, admitted, q, r)
-    go false false false p q r = rw (p, admitted, q, r, e)
-
 admitted-cut : {formula front : List ℕ} (table read work : List ℕ) → Cut mostFormula formula front → definitions read ≡ definitions table → admitted front read work ≡ admitted formula table work
-admitted-cut {formula} table read work (whole e) d = ap (λ (s : List ℕ). admitted s read work) e ∙ same-admitted formula table read work d
+admitted-cut {formula} table read work (whole e) d = ap (λ (s : List ℕ). admitted s read work) e ∙ admitted-same formula read table work (ap (readable formula) d)
 admitted-cut {formula} {front} table read work (beyond h k) d = long-refused front read work k ∙ sym (long-refused formula table work h)
 
 pub converted-cut :
-    (order : List Definition) (formula table : List ℕ) (display : Bool) (work output : List ℕ)
-    → converted order (take pastFormula formula) (take pastTable table) display work output ≡ converted order formula table display work output
+    (formula table : List ℕ) (display : Bool) (work output : List ℕ)
+    → converted (take pastFormula formula) (take pastTable table) display work output ≡ converted formula table display work output
 unfolding converted
-converted-cut order formula table display work output =
-    ap (λ r. r then typstToLatex order display then fitting output) (admitted-cut table (take pastTable table) work (cut mostFormula formula) (definitions-cut table))
+converted-cut formula table display work output =
+    ap₂ (λ (r : Result (List ℕ)) (o : Option (List Definition)). r then typstToLatex (Option·getD o []) display then fitting output)
+    (admitted-cut table (take pastTable table) work (cut mostFormula formula) (definitions-cut table)) (definitions-cut table)

@@ -6,13 +6,13 @@ use Rattle.spec.specs.Held.{up, counted}
 use Rattle.spec.specs.Pipeline.{converted}
 use Rattle.spec.specs.Program.{printed}
 
-pub fraction-printed : printed [] (bytes "d\n(a + 1)/b") [] ≡ bytes "ok 15\n\\frac{a + 1}{b}\n"
+pub fraction-printed : printed (bytes "d\n(a + 1)/b") [] ≡ bytes "ok 15\n\\frac{a + 1}{b}\n"
 unfolding converted counted up
 fraction-printed = refl
 
-pub refusal-printed : printed [] (bytes "d\nlr(|)") [] ≡ bytes "refused 8\n"
+pub refusal-printed : printed (bytes "d\nlr(|)") [] ≡ bytes "refused 8\n"
 unfolding converted counted up
 refusal-printed = refl
 
-pub neither-printed : printed [] (bytes "dd") [] ≡ bytes "first line: d or i\n"
+pub neither-printed : printed (bytes "dd") [] ≡ bytes "first line: d or i\n"
 neither-printed = refl

@@ -13,8 +13,6 @@ use lib.ListN.{length, take, drop, replicate, length-append, length-take, length
 use lib.Seq.{take-all, take-append-seam}
 use Rattle.spec.specs.Symbols.{bytes}
 use Rattle.spec.specs.Result.{Result, passed, refused, _then_}
-use Rattle.spec.specs.Table.{Definition, definitions, byLength, Order}
-use Rattle.spec.specs.Laws.Table.{by-length-order}
 use Rattle.spec.specs.Pipeline.{leastWork, definitionsOr, admitted, typstToLatex, fitting, converted, answerOf, outputAfter, workAfter, Call}
 use Rattle.spec.specs.Program.{firstLine, formulaOf, mostOutput, reported, answered, printed, bufferAfter, Read, Run, Prints}
 use Rattle.formula_text.specs.Cut.{pastFormula, pastInput, pastTable, first-cut, formula-cut, definitions-cut, converted-cut}
@@ -22,20 +20,18 @@ use Rattle.formula_text.specs.Standing.{Stands}
 
 -- the answer of a call with the program's buffers, as a text at the start of another
 pub record Converts (formula table : List ℕ) (display : Bool) (work output w : List ℕ) (count : ℕ) (work′ output′ w′ : List ℕ) : Type 0 where
-  pub order : List Definition
-  pub ordered : Order (definitionsOr table) order
-  pub stands : Stands (reported (converted order formula table display (replicate leastWork 0) (replicate mostOutput 0))) w count w′
-  pub clears : work′ ≡ workAfter (converted order formula table display (replicate leastWork 0) (replicate mostOutput 0)) work
-  pub puts-out : output′ ≡ outputAfter (converted order formula table display (replicate leastWork 0) (replicate mostOutput 0)) output
+  pub stands : Stands (reported (converted formula table display (replicate leastWork 0) (replicate mostOutput 0))) w count w′
+  pub clears : work′ ≡ workAfter (converted formula table display (replicate leastWork 0) (replicate mostOutput 0)) work
+  pub puts-out : output′ ≡ outputAfter (converted formula table display (replicate leastWork 0) (replicate mostOutput 0)) output
 
 -- ---- a call
 -- only the buffers' lengths count
 converted-lent :
-    (order : List Definition) (formula table : List ℕ) (display : Bool) (work work₁ output output₁ : List ℕ) → length work ≡ length work₁ → length output ≡ length output₁
-    → converted order formula table display work output ≡ converted order formula table display work₁ output₁
+    (formula table : List ℕ) (display : Bool) (work work₁ output output₁ : List ℕ) → length work ≡ length work₁ → length output ≡ length output₁
+    → converted formula table display work output ≡ converted formula table display work₁ output₁
 unfolding converted
-converted-lent order formula table display work work₁ output output₁ w o =
-    ap (λ a. a then typstToLatex order display then fitting output) admits ∙ fits (admitted formula table work₁ then typstToLatex order display)
+converted-lent formula table display work work₁ output output₁ w o =
+    ap (λ a. a then typstToLatex (definitionsOr table) display then fitting output) admits ∙ fits (admitted formula table work₁ then typstToLatex (definitionsOr table) display)
   where
     admits : admitted formula table work ≡ admitted formula table work₁
     admits = rw (w, admitted)
@@ -45,21 +41,19 @@ converted-lent order formula table display work work₁ output output₁ w o =
     fits (refused k) = refl
 
 module _ {formula table work output work′ output′ : List ℕ} {display : Bool} {answer : Result ℕ} (wide : length work ≡ leastWork) (long : length output ≡ mostOutput) (c : Call formula table display work output answer work′ output′) where
-  same : converted (c .order) formula table display work output ≡ converted (c .order) formula table display (replicate leastWork 0) (replicate mostOutput 0)
-  same = converted-lent (c .order) formula table display _ _ _ _ (wide ∙ sym (length-replicate {A = ℕ} leastWork 0)) (long ∙ sym (length-replicate {A = ℕ} mostOutput 0))
+  same : converted formula table display work output ≡ converted formula table display (replicate leastWork 0) (replicate mostOutput 0)
+  same = converted-lent formula table display _ _ _ _ (wide ∙ sym (length-replicate {A = ℕ} leastWork 0)) (long ∙ sym (length-replicate {A = ℕ} mostOutput 0))
 
-  converts : {w w′ : List ℕ} {count : ℕ} → Stands (reported (converted (c .order) formula table display work output)) w count w′ → Converts formula table display work output w count work′ output′ w′
+  converts : {w w′ : List ℕ} {count : ℕ} → Stands (reported (converted formula table display work output)) w count w′ → Converts formula table display work output w count work′ output′ w′
   converts {w} {w′} {count} s =
       record {
-        order = c .order;
-        ordered = c .ordered;
         stands = subst (λ r. Stands (reported r) w count w′) same s;
         clears = c .clears ∙ ap (λ r. workAfter r work) same;
         puts-out = c .writes ∙ ap (λ r. outputAfter r output) same;
       }
 
   pub converts-done : {n : ℕ} {w w′ : List ℕ} {count : ℕ} → answer ≡ passed n → Stands (reported (passed (take n output′))) w count w′ → Converts formula table display work output w count work′ output′ w′
-  converts-done {n} {w} {w′} {count} e s = converts (subst (λ r. Stands (reported r) w count w′) (go (converted _ _ _ _ _ _) (sym e ∙ c .answers) (c .writes)) s)
+  converts-done {n} {w} {w′} {count} e s = converts (subst (λ r. Stands (reported r) w count w′) (go (converted _ _ _ _ _) (sym e ∙ c .answers) (c .writes)) s)
     where
       go : (r : Result (List ℕ)) → passed n ≡ answerOf r → output′ ≡ outputAfter r output → passed (take n output′) ≡ r
       go (refused k) e o = absurd (let z : _≡_ {A = ℕ} 0 1 = cc in omega arith)
@@ -68,7 +62,7 @@ module _ {formula table work output work′ output′ : List ℕ} {display : Boo
           ap passed (ap₂ (λ (k : ℕ) (l : List ℕ). take k l) long o ∙ take-append-seam latex (drop (length latex) output))
 
   pub converts-refused : {k : ℕ} {w w′ : List ℕ} {count : ℕ} → answer ≡ refused k → Stands (reported (refused k)) w count w′ → Converts formula table display work output w count work′ output′ w′
-  converts-refused {k} {w} {w′} {count} e s = converts (subst (λ r. Stands (reported r) w count w′) (go (converted _ _ _ _ _ _) (sym e ∙ c .answers)) s)
+  converts-refused {k} {w} {w′} {count} e s = converts (subst (λ r. Stands (reported r) w count w′) (go (converted _ _ _ _ _) (sym e ∙ c .answers)) s)
     where
       go : (r : Result (List ℕ)) → refused k ≡ answerOf r → refused k ≡ r
       go (refused j) e = cc
@@ -77,14 +71,14 @@ module _ {formula table work output work′ output′ : List ℕ} {display : Boo
 -- ---- a run
 -- what an input whose first line is known prints, and what it leaves in a buffer
 printed-for :
-    (order : List Definition) (input table : List ℕ) {line : Option Bool} → firstLine input ≡ line
-    → printed order input table ≡ elim line as (λ _. List ℕ) [ none ↦ bytes "first line: d or i\n" | some display ↦ reported (answered order input table display) ]
-printed-for order input table e = rw (e, printed)
+    (input table : List ℕ) {line : Option Bool} → firstLine input ≡ line
+    → printed input table ≡ elim line as (λ _. List ℕ) [ none ↦ bytes "first line: d or i\n" | some display ↦ reported (answered input table display) ]
+printed-for input table e = rw (e, printed)
 
 buffer-for :
-    (after : Result (List ℕ) → List ℕ → List ℕ) (order : List Definition) (input table buffer : List ℕ) {line : Option Bool} → firstLine input ≡ line
-    → bufferAfter after order input table buffer ≡ elim line as (λ _. List ℕ) [ none ↦ buffer | some display ↦ after (answered order input table display) buffer ]
-buffer-for after order input table buffer e = rw (e, bufferAfter)
+    (after : Result (List ℕ) → List ℕ → List ℕ) (input table buffer : List ℕ) {line : Option Bool} → firstLine input ≡ line
+    → bufferAfter after input table buffer ≡ elim line as (λ _. List ℕ) [ none ↦ buffer | some display ↦ after (answered input table display) buffer ]
+buffer-for after input table buffer e = rw (e, bufferAfter)
 
 module _ (inputRead : List ℕ) (n : ℕ) (full : length inputRead ≡ pastInput) where
   -- what was read of an input, and its first line
@@ -99,16 +93,13 @@ module _ (inputRead : List ℕ) (n : ℕ) (full : length inputRead ≡ pastInput
         none ≡ firstLine (take n inputRead) → Stands (bytes "first line: d or i\n") w count w′ → work′ ≡ work → output′ ≡ output
         → Prints inputRead n tableRead m work output w count work′ output′ w′
     prints-neither e s same-work same-output input table r _ =
-        let order = byLength (definitionsOr table) in
         let line : firstLine input ≡ none = sym (e ∙ line-read input r) in
-        let text = subst (λ t. Stands t w count w′) (sym (printed-for order input table line)) s in
+        let text = subst (λ t. Stands t w count w′) (sym (printed-for input table line)) s in
         record {
-          order = order;
-          ordered = by-length-order (definitionsOr table);
           answers = text .counted;
           writes = text .written;
-          clears = same-work ∙ sym (buffer-for workAfter order input table work line);
-          puts-out = same-output ∙ sym (buffer-for outputAfter order input table output line);
+          clears = same-work ∙ sym (buffer-for workAfter input table work line);
+          puts-out = same-output ∙ sym (buffer-for outputAfter input table output line);
         }
 
     pub prints-converted :
@@ -120,16 +111,13 @@ module _ (inputRead : List ℕ) (n : ℕ) (full : length inputRead ≡ pastInput
         let formula : formulaOf (take n inputRead) ≡ take pastFormula (formulaOf input) = ap formulaOf (input-read input r) ∙ formula-cut input in
         let records : take m tableRead ≡ take pastTable table = t display line ∙ ap (λ (k : ℕ). take k table) wide in
         let cut = rw records at (rw formula at c) in
-        let order = cut .order in
-        let same = converted-cut order (formulaOf input) table display (replicate leastWork 0) (replicate mostOutput 0) in
-        let text = subst (λ s. Stands s w count w′) (ap reported same ∙ sym (printed-for order input table line)) (cut .stands) in
+        let same = converted-cut (formulaOf input) table display (replicate leastWork 0) (replicate mostOutput 0) in
+        let text = subst (λ s. Stands s w count w′) (ap reported same ∙ sym (printed-for input table line)) (cut .stands) in
         record {
-          order = order;
-          ordered = subst (λ ds. Order ds order) (ap (λ (o : Option (List Definition)). Option·getD o []) (definitions-cut table)) (cut .ordered);
           answers = text .counted;
           writes = text .written;
-          clears = cut .clears ∙ ap (λ a. workAfter a work) same ∙ sym (buffer-for workAfter order input table work line);
-          puts-out = cut .puts-out ∙ ap (λ a. outputAfter a output) same ∙ sym (buffer-for outputAfter order input table output line);
+          clears = cut .clears ∙ ap (λ a. workAfter a work) same ∙ sym (buffer-for workAfter input table work line);
+          puts-out = cut .puts-out ∙ ap (λ a. outputAfter a output) same ∙ sym (buffer-for outputAfter input table output line);
         }
 
 -- ---- what was read is all of an input that ends there

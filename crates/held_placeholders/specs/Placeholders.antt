@@ -14,7 +14,7 @@ use Rattle.spec.specs.Symbols.{bytes, until, find, textMark}
 use Rattle.spec.specs.Sweep.{Rule, sweep, replace}
 use Rattle.spec.specs.Closing.{close, findMatchingBrace}
 use Rattle.spec.specs.Held.{up, counted, placeholder, restored}
-use Rattle.spec.specs.Table.{Definition}
+use Rattle.spec.specs.Table.{Definition, inOrder}
 use Rattle.spec.specs.Definitions.{applyDefinition}
 use Rattle.spec.specs.Rows.{Row, greekLetters, wordMappings}
 use Rattle.spec.specs.Words.{greek, wordOrLiteral}
@@ -80,8 +80,8 @@ definedAll [] s = s
 definedAll (d ∷ ds) s = elim (eqb (length (d .name)) 1) [ true ↦ definedAll ds s | false ↦ definedAll ds (applyDefinition d s) ]
 
 unfoldable pub rustDefinitions : List Definition → List ℕ → List ℕ
-unfolding holdOut definedAll restored
-rustDefinitions order s = let p = holdOut textNames s in restored 0 (p .blocks) (definedAll order (p .text))
+unfolding inOrder holdOut definedAll restored
+rustDefinitions ds s = let p = holdOut textNames s in restored 0 (p .blocks) (definedAll (inOrder ds) (p .text))
 
 unfoldable pub rewrittenAll : (Row → Rule) → List Row → List ℕ → List ℕ
 unfolding sweep

@@ -14,7 +14,7 @@ use Rattle.spec.specs.Symbols.{textMark, romanMark}
 use Rattle.spec.specs.Sweep.{Rule, sweep}
 use Rattle.spec.specs.Result.{Result, passed, refused, _then_}
 use Rattle.spec.specs.Held.{Held, withText, holdTexts, holdBoth, heldStage, placeholder, marks, numbered, numberedRomans, restored, rustPutBack, putBack}
-use Rattle.spec.specs.Table.{Definition}
+use Rattle.spec.specs.Table.{Definition, inOrder}
 use Rattle.spec.specs.Definitions.{applyDefinition, applyDefinitions, applyDefinitionsOutsideText}
 use Rattle.spec.specs.Rows.{Row, greekLetters, wordMappings}
 use Rattle.spec.specs.Words.{greek, wordOrLiteral, heldRows, convertWords}
@@ -111,19 +111,19 @@ placed-definitions (d ∷ ds) sound h g e = go (eqb (length (d .name)) 1) e (λ 
         more (withText h (applyDefinition d (h .text))) (stage-made (applyDefinition d) h (applyDefinitions ds) e)
         ∙ ap (λ p. placed (definedAll ds (p .text)) (p .blocks)) (placed-sweep (defined-between (sound .0)) h)
 
-module _ (order : List Definition) (sound : EverySound order) (s : List ℕ) (free : hasMark s ≡ false) {g : Held} (through : applyDefinitions order (holdTexts s) ≡ passed g) where
-  pub definitions-literal : rustDefinitions order s ≡ rustPutBack g
+module _ (ds : List Definition) (sound : EverySound (inOrder ds)) (s : List ℕ) (free : hasMark s ≡ false) {g : Held} (through : applyDefinitions (inOrder ds) (holdTexts s) ≡ passed g) where
+  pub definitions-literal : rustDefinitions ds s ≡ rustPutBack g
   unfolding rustDefinitions rustPutBack holdTexts
   definitions-literal =
       let start : holdOut textNames s ≡ placedOf (holdTexts s) = texts-held s free (length (holdTexts s .texts)) ∙ ap (placed _) (append-romans (holdTexts s .texts) (holdTexts s .text)) in
-      ap (λ p. restored 0 (p .blocks) (definedAll order (p .text))) start
-      ∙ sym (ap (λ p. restored 0 (p .blocks) (p .text)) (placed-definitions order sound (holdTexts s) g through))
+      ap (λ p. restored 0 (p .blocks) (definedAll (inOrder ds) (p .text))) start
+      ∙ sym (ap (λ p. restored 0 (p .blocks) (p .text)) (placed-definitions (inOrder ds) sound (holdTexts s) g through))
     where
       append-romans : (bs : List (List ℕ)) (l : List ℕ) → bs ≡ bs ++ numberedRomans [] 0 l
       append-romans bs l = sym (ap (λ r. bs ++ r) (romans-none 0 l) ∙ append-nil bs)
 
   pub definitions-answer :
-      applyDefinitionsOutsideText order s ≡ cond (marked (rustDefinitions order s)) (refused 6) (passed (rustDefinitions order s))
+      applyDefinitionsOutsideText ds s ≡ cond (marked (rustDefinitions ds s)) (refused 6) (passed (rustDefinitions ds s))
   unfolding applyDefinitionsOutsideText putBack
   definitions-answer =
       ap (λ p. p then putBack) through

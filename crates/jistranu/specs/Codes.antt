@@ -26,7 +26,7 @@ pub call-answered :
     {formula table work output work′ output′ : List ℕ} {display : Bool} {a b : Result ℕ} → a ≡ b
     → Call formula table display work output a work′ output′
     → Call formula table display work output b work′ output′
-call-answered e c = record { order = c .order; ordered = c .ordered; answers = sym e ∙ c .answers; clears = c .clears; writes = c .writes }
+call-answered e c = record { answers = sym e ∙ c .answers; clears = c .clears; writes = c .writes }
 
 -- no refusal has the number 0
 pub refusal-coded : (why : Refusal) {r : ℕ} (count : ℕ) → r ≡ number why → refused (number why) ≡ resultOf r count

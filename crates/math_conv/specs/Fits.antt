@@ -9,7 +9,7 @@ use lib.Dec.{ltb}
 use lib.ListN.{length}
 use borrow.Author.Tests.{ltb-false}
 use Rattle.spec.specs.Result.{Result, passed, refused, _then_}
-use Rattle.spec.specs.Pipeline.{admitted, typstToLatex, fitting, converted, answerOf, Call}
+use Rattle.spec.specs.Pipeline.{definitionsOr, admitted, typstToLatex, fitting, converted, answerOf, Call}
 use Rattle.math_conv.specs.declared.Answer.{Answer}
 use Rattle.math_conv.specs.declared.Answer.the-variants.{Done}
 use Rattle.math_conv.specs.Answer.{meaning}
@@ -29,4 +29,4 @@ pub call-count-fits :
     → n ≤ length output
 unfolding converted
 call-count-fits {formula} {table} {work} {output} {display = display} c e =
-    fitting-fits output (admitted formula table work then typstToLatex (c .order) display) (sym (ap meaning e) ∙ c .answers)
+    fitting-fits output (admitted formula table work then typstToLatex (definitionsOr table) display) (sym (ap meaning e) ∙ c .answers)

@@ -16,8 +16,7 @@ use lib.Seq.{take-append-seam}
 use borrow.Author.Tests.{lt-ltb, le-ltb, eqb-true}
 use Rattle.spec.specs.Symbols.{foreign, any, textMark, romanMark}
 use Rattle.spec.specs.Result.{Result, passed, refused, _then_}
-use Rattle.spec.specs.Table.{Definition, definitions, byLength}
-use Rattle.spec.specs.Laws.Table.{by-length-order}
+use Rattle.spec.specs.Table.{Definition, definitions}
 use Rattle.spec.specs.Laws.Booleans.{or-neither}
 use Rattle.spec.specs.Pipeline.{mostFormula, leastWork, definitionsOr, readable, admitted, typstToLatex, fitting, converted, answerOf, outputAfter, workAfter, Call}
 use Rattle.text_symbols.specs.Parts.{part, length-part}
@@ -182,12 +181,9 @@ module _ {formula table work output : List ℕ} {display : Bool} where
   pub call-narrow : length work < leastWork → Call formula table display work output (refused 4) work output
   unfolding converted
   call-narrow h =
-      let order = byLength (definitionsOr table) in
-      let narrow : converted order formula table display work output ≡ refused 4 =
-      ap (λ r. r then typstToLatex order display then fitting output) narrow-first in
+      let narrow : converted formula table display work output ≡ refused 4 =
+      ap (λ r. r then typstToLatex (definitionsOr table) display then fitting output) narrow-first in
       record {
-        order = order;
-        ordered = by-length-order (definitionsOr table);
         answers = ap answerOf (sym narrow);
         clears = ap (λ r. workAfter r work) (sym narrow);
         writes = ap (λ r. outputAfter r output) (sym narrow);
@@ -199,19 +195,16 @@ module _ {formula table work output : List ℕ} {display : Bool} where
   pub call-made :
       leastWork ≤ length work → {w₁ w₂ work′ output′ : List ℕ} {p q : Progress} {answer : Answer}
       → Admits formula table work w₁ p
-      → Answered w₁ w₂ p q (typstToLatex (byLength (definitionsOr table)) display)
+      → Answered w₁ w₂ p q (typstToLatex (definitionsOr table) display)
       → PutOut w₂ q answer output output′
       → work′ ≡ replicate (length w₂) 0
       → Call formula table display work output (meaning answer) work′ output′
   unfolding converted
   call-made wide {w₂ = w₂} {q = q} a b c e =
-      let order = byLength (definitionsOr table) in
-      let whole : (shown q w₂ then fitting output) ≡ converted order formula table display work output =
-      ap (λ r. r then fitting output) (b .answer ∙ ap (λ r. r then typstToLatex order display) (a .shows)) in
+      let whole : (shown q w₂ then fitting output) ≡ converted formula table display work output =
+      ap (λ r. r then fitting output) (b .answer ∙ ap (λ r. r then typstToLatex (definitionsOr table) display) (a .shows)) in
       record {
-        order = order;
-        ordered = by-length-order (definitionsOr table);
         answers = c .answers ∙ ap answerOf whole;
-        clears = e ∙ ap (λ n. replicate n 0) (b .long ∙ a .long) ∙ sym (cleared work (then-late (fitting output) (then-late (typstToLatex order display) (admitted-late formula table work wide) (stages-late order display)) (fitting-late output)));
+        clears = e ∙ ap (λ n. replicate n 0) (b .long ∙ a .long) ∙ sym (cleared work (then-late (fitting output) (then-late (typstToLatex (definitionsOr table) display) (admitted-late formula table work wide) (stages-late (definitionsOr table) display)) (fitting-late output)));
         writes = c .writes ∙ ap (λ r. outputAfter r output) whole;
       }

@@ -14,7 +14,7 @@ use lib.Seq.{take-append-seam}
 use borrow.Author.Tests.{le-ltb}
 use Rattle.spec.specs.Symbols.{foreign, all, any}
 use Rattle.spec.specs.Result.{Result, passed, refused, mostSymbols}
-use Rattle.spec.specs.Table.{Definition, definitions, Rearranged, nothing, put, Order}
+use Rattle.spec.specs.Table.{Definition, definitions}
 use Rattle.spec.specs.Fractions.{mostRounds}
 use Rattle.spec.specs.Pipeline.{typstToLatex, mostFormula, leastWork, definitionsOr, readable, admitted, fitting, converted, answerOf, outputAfter, workAfter, Call}
 use Rattle.spec.specs.Grammar
@@ -26,7 +26,7 @@ use Rattle.plain_printing.specs.TreeOf.{treeOf}
 use Rattle.plain_printing.specs.TreeTexts.{text-tree}
 use Rattle.plain_printing.specs.Sums.{sum-yields, sums-apart}
 
--- ---- a table of no records leaves one order
+-- ---- a table of no records
 abbrev pub NoRecords : List ℕ → Type 0
 NoRecords table = definitions table ≡ some []
 
@@ -34,12 +34,8 @@ pub empty-table : NoRecords []
 unfolding definitions
 empty-table = refl
 
-rearranged-none : {ds order : List Definition} → Rearranged ds order → ds ≡ [] → order ≡ []
-rearranged-none nothing e = refl
-rearranged-none (put d es fs r) e = cc
-
-pub order-none : (table : List ℕ) → NoRecords table → (order : List Definition) → Order (definitionsOr table) order → order ≡ []
-order-none table h order o = rearranged-none (o .rearranged) (ap (λ (ds : Option (List Definition)). Option·getD ds []) h)
+none-or : (table : List ℕ) → NoRecords table → definitionsOr table ≡ []
+none-or table h = ap (λ (ds : Option (List Definition)). Option·getD ds []) h
 
 -- ---- the answer of a call
 abbrev pub latexOf : {formula : List ℕ} → Plain formula → List ℕ
@@ -89,10 +85,11 @@ module _ {formula : List ℕ} (p : Plain formula) (table : List ℕ) (empty : No
         );
       }
 
-  conversion-yields : Yields (WithinLimits p work output) (typstToLatex [] true formula) (latexOf p)
+  conversion-yields : Yields (WithinLimits p work output) (typstToLatex (definitionsOr table) true formula) (latexOf p)
   conversion-yields =
-      subst (λ (f : List ℕ). Yields (WithinLimits p work output) (typstToLatex [] true f) (latexOf p)) (p .reads)
-      (yields-weaken (λ (w : WithinLimits p work output). record { shallow = w .shallow; short = w .latex-short }) (sum-yields (p .sum) (p .is-proper)))
+      rw (none-or table empty)
+      (subst (λ (f : List ℕ). Yields (WithinLimits p work output) (typstToLatex [] true f) (latexOf p)) (p .reads)
+      (yields-weaken (λ (w : WithinLimits p work output). record { shallow = w .shallow; short = w .latex-short }) (sum-yields (p .sum) (p .is-proper))))
 
   fitting-yields : Yields (WithinLimits p work output) (fitting output (latexOf p)) (latexOf p)
   fitting-yields =
@@ -102,41 +99,36 @@ module _ {formula : List ℕ} (p : Plain formula) (table : List ℕ) (empty : No
       only true x e = cc
       only false x e = cc
 
-  converted-yields : Yields (WithinLimits p work output) (converted [] formula table true work output) (latexOf p)
+  converted-yields : Yields (WithinLimits p work output) (converted formula table true work output) (latexOf p)
   unfolding converted
-  converted-yields = then-yields _ (fitting output) (then-yields _ (typstToLatex [] true) admitted-yields conversion-yields) fitting-yields
+  converted-yields = then-yields _ (fitting output) (then-yields _ (typstToLatex (definitionsOr table) true) admitted-yields conversion-yields) fitting-yields
 
-  pub converted-prints : (x : List ℕ) → converted [] formula table true work output ≡ passed x → x ≡ latexOf p
+  pub converted-prints : (x : List ℕ) → converted formula table true work output ≡ passed x → x ≡ latexOf p
   converted-prints = converted-yields .passes-only
 
-  pub converted-accepts : WithinLimits p work output → converted [] formula table true work output ≡ passed (latexOf p)
+  pub converted-accepts : WithinLimits p work output → converted formula table true work output ≡ passed (latexOf p)
   converted-accepts = converted-yields .passes
 
 -- ---- calls: the answer is a byte count, and the output is the bytes from the start of the buffer, as many as it says
 module _ {formula : List ℕ} (p : Plain formula) (table : List ℕ) (empty : NoRecords table) {work output work′ output′ : List ℕ} where
-  call-order : {answer : Result ℕ} (c : Call formula table true work output answer work′ output′) → converted (c .order) formula table true work output ≡ converted [] formula table true work output
-  call-order c = ap (λ (order : List Definition). converted order formula table true work output) (order-none table empty (c .order) (c .ordered))
-
   pub call-prints : {n : ℕ} → Call formula table true work output (passed n) work′ output′ → take n output′ ≡ latexOf p
-  call-prints {n} c = go (converted [] formula table true work output) refl (c .answers ∙ ap answerOf (call-order c)) (c .writes ∙ ap (λ r. outputAfter r output) (call-order c))
+  call-prints {n} c = go (converted formula table true work output) refl (c .answers) (c .writes)
     where
-      go : (r : Result (List ℕ)) → converted [] formula table true work output ≡ r → passed n ≡ answerOf r → output′ ≡ outputAfter r output → take n output′ ≡ latexOf p
+      go : (r : Result (List ℕ)) → converted formula table true work output ≡ r → passed n ≡ answerOf r → output′ ≡ outputAfter r output → take n output′ ≡ latexOf p
       go (passed s) h e f =
           let count : n ≡ length s = cc in
           rw (f, count) (take-append-seam s (drop (length s) output)) ∙ converted-prints p table empty work output s h
       go (refused number) h e f = cc
 
   pub call-accepts : WithinLimits p work output → {answer : Result ℕ} → Call formula table true work output answer work′ output′ → answer ≡ passed (length (latexOf p))
-  call-accepts w c = c .answers ∙ ap answerOf (call-order c ∙ converted-accepts p table empty work output w)
+  call-accepts w c = c .answers ∙ ap answerOf (converted-accepts p table empty work output w)
 
 pub accepting-call : {formula : List ℕ} (p : Plain formula) (work output : List ℕ) → WithinLimits p work output
     → Call formula [] true work output (passed (length (latexOf p))) (replicate (length work) 0) (latexOf p ++ drop (length (latexOf p)) output)
 unfolding definitions
 accepting-call {formula} p work output w =
-    let accepted : converted [] formula [] true work output ≡ passed (latexOf p) = converted-accepts p [] empty-table work output w in
+    let accepted : converted formula [] true work output ≡ passed (latexOf p) = converted-accepts p [] empty-table work output w in
     record {
-      order = [];
-      ordered = record { rearranged = nothing; longer-first = refl };
       answers = ap answerOf (sym accepted);
       clears = ap (λ r. workAfter r work) (sym accepted);
       writes = ap (λ r. outputAfter r output) (sym accepted);

@@ -8,7 +8,7 @@ use Rattle.spec.specs.Symbols.{letter, wordly, head, starts}
 use Rattle.spec.specs.Sweep.{Rule, taken, kept, sweep}
 use Rattle.spec.specs.Result.{Result, passed, _then_}
 use Rattle.spec.specs.Held.{Held, holdTexts, inFull, heldStage, putBack}
-use Rattle.spec.specs.Table.{Definition}
+use Rattle.spec.specs.Table.{Definition, inOrder}
 
 -- The Rust's `\bNAME([^a-zA-Z]|$)`: after a word boundary, before a non-letter or the end. Its pattern takes the symbol behind the name along and
 -- puts it back. Here that symbol is only looked at: it is no letter and names begin with one, so no match that it begins is hidden by that.
@@ -26,7 +26,6 @@ unfolding applyDefinition inFull
 applyDefinitions [] h = passed h
 applyDefinitions (d ∷ ds) h = elim (eqb (length (d .name)) 1) [ true ↦ applyDefinitions ds h | false ↦ heldStage (applyDefinition d) h then applyDefinitions ds ]
 
--- in the order of the list, which the caller gives
 unfoldable pub applyDefinitionsOutsideText : List Definition → List ℕ → Result (List ℕ)
-unfolding holdTexts applyDefinitions putBack
-applyDefinitionsOutsideText order s = applyDefinitions order (holdTexts s) then putBack
+unfolding inOrder holdTexts applyDefinitions putBack
+applyDefinitionsOutsideText ds s = applyDefinitions (inOrder ds) (holdTexts s) then putBack

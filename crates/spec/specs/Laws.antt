@@ -7,4 +7,6 @@ pub mod Sweep
 pub mod Absent
 pub mod Held
 pub mod Attach
+pub mod Order
+pub mod Selection
 pub mod Table

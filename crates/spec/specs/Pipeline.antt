@@ -14,7 +14,7 @@ use Rattle.spec.specs.Sweep.{replace}
 use Rattle.spec.specs.Result.{Result, passed, refused, _then_, stage}
 use Rattle.spec.specs.Calls.{convertCalls, convertOp, convertCases, convertAttach, convertBb, convertBold, convertBinom, convertUpright, convertFloorCeilAbs}
 use Rattle.spec.specs.Quotes.{convertTextQuotes}
-use Rattle.spec.specs.Table.{Definition, definitions, Order}
+use Rattle.spec.specs.Table.{Definition, definitions}
 use Rattle.spec.specs.Definitions.{applyDefinitionsOutsideText}
 use Rattle.spec.specs.Rows.{functionMappings, operatorReplacements}
 use Rattle.spec.specs.Words.{convertSqrt, replaceRows, convertWords, capitals, convertGreekCapitals}
@@ -53,7 +53,7 @@ convertSyntax display s =
 
 unfoldable pub typstToLatex : List Definition → Bool → List ℕ → Result (List ℕ)
 unfolding replace convertCalls convertCases convertAttach convertBinom convertTextQuotes applyDefinitionsOutsideText convertSyntax convertAlignment dropThinSpaceAfterCommands
-typstToLatex order display s =
+typstToLatex ds display s =
     stage markSolidus s
     then stage convertOp
     then stage convertCases
@@ -64,7 +64,7 @@ typstToLatex order display s =
     then stage convertUpright
     then convertFloorCeilAbs
     then stage convertTextQuotes
-    then applyDefinitionsOutsideText order
+    then applyDefinitionsOutsideText ds
     then convertSyntax display
     then stage convertAlignment
     then stage dropThinSpaceAfterCommands
@@ -100,9 +100,9 @@ admitted formula table work =
 abbrev pub fitting : List ℕ → List ℕ → Result (List ℕ)
 fitting output s = cond (ltb (length output) (length s)) (refused 10) (passed s)
 
-unfoldable pub converted : List Definition → List ℕ → List ℕ → Bool → List ℕ → List ℕ → Result (List ℕ)
+unfoldable pub converted : List ℕ → List ℕ → Bool → List ℕ → List ℕ → Result (List ℕ)
 unfolding definitions typstToLatex
-converted order formula table display work output = admitted formula table work then typstToLatex order display then fitting output
+converted formula table display work output = admitted formula table work then typstToLatex (definitionsOr table) display then fitting output
 
 -- ---- the answer and the buffers
 -- the byte count, or the refusal
@@ -120,10 +120,8 @@ abbrev pub workAfter : Result (List ℕ) → List ℕ → List ℕ
 workAfter (passed s) work = replicate (length work) 0
 workAfter (refused number) work = cond (eqb number 4) work (replicate (length work) 0)
 
--- a call, from what it was lent to what it answers and leaves; among names of equal length some order is taken
+-- a call, from what it was lent to what it answers and leaves
 pub record Call (formula table : List ℕ) (display : Bool) (work output : List ℕ) (answer : Result ℕ) (work′ output′ : List ℕ) : Type 0 where
-  pub order : List Definition
-  pub ordered : Order (definitionsOr table) order
-  pub answers : answer ≡ answerOf (converted order formula table display work output)
-  pub clears : work′ ≡ workAfter (converted order formula table display work output) work
-  pub writes : output′ ≡ outputAfter (converted order formula table display work output) output
+  pub answers : answer ≡ answerOf (converted formula table display work output)
+  pub clears : work′ ≡ workAfter (converted formula table display work output) work
+  pub writes : output′ ≡ outputAfter (converted formula table display work output) output

@@ -1,6 +1,6 @@
 -- The program `formula`: from all bytes of standard input and of the table to the text on standard output. Assumes nothing.
 --     firstLine, formulaOf    the two parts of the input
---     printed                 the text on standard output, for an order of the table's records
+--     printed                 the text on standard output
 --     Run                     the text and its length, in a lent buffer, and the buffers that are lent to the entry
 --     Prints                  the same from what has been read into buffers, whatever lies behind the place where reading stopped
 use mathlib.Core.Path.{_≡_}
@@ -11,9 +11,8 @@ use Prim.Native.Nat.{ℕ}
 use lib.ListN.{length, take, drop, replicate}
 use Rattle.spec.specs.Symbols.{bytes, is}
 use Rattle.spec.specs.Result.{Result, passed, refused}
-use Rattle.spec.specs.Table.{Definition, Order}
 use Rattle.spec.specs.Held.{decimal}
-use Rattle.spec.specs.Pipeline.{leastWork, definitionsOr, converted, outputAfter, workAfter}
+use Rattle.spec.specs.Pipeline.{leastWork, converted, outputAfter, workAfter}
 
 -- ---- the input: a line `d` (display on) or `i` (off), then the formula to the end
 abbrev pub displayOf : ℕ → Option Bool
@@ -38,25 +37,23 @@ reported (passed latex) = bytes "ok " ++ decimal (length latex) ++ bytes "\n" ++
 reported (refused number) = bytes "refused " ++ decimal number ++ bytes "\n"
 
 -- what the entry makes of the formula
-abbrev pub answered : List Definition → List ℕ → List ℕ → Bool → Result (List ℕ)
-answered order input table display = converted order (formulaOf input) table display (replicate leastWork 0) (replicate mostOutput 0)
+abbrev pub answered : List ℕ → List ℕ → Bool → Result (List ℕ)
+answered input table display = converted (formulaOf input) table display (replicate leastWork 0) (replicate mostOutput 0)
 
-abbrev pub printed : List Definition → List ℕ → List ℕ → List ℕ
-printed order input table = elim (firstLine input) [ none ↦ bytes "first line: d or i\n" | some display ↦ reported (answered order input table display) ]
+abbrev pub printed : List ℕ → List ℕ → List ℕ
+printed input table = elim (firstLine input) [ none ↦ bytes "first line: d or i\n" | some display ↦ reported (answered input table display) ]
 
 -- ---- a run of the program
 -- a buffer that is lent to the entry, as that leaves it; where the first line is neither, it is untouched
-abbrev pub bufferAfter : (Result (List ℕ) → List ℕ → List ℕ) → List Definition → List ℕ → List ℕ → List ℕ → List ℕ
-bufferAfter after order input table buffer = elim (firstLine input) [ none ↦ buffer | some display ↦ after (answered order input table display) buffer ]
+abbrev pub bufferAfter : (Result (List ℕ) → List ℕ → List ℕ) → List ℕ → List ℕ → List ℕ → List ℕ
+bufferAfter after input table buffer = elim (firstLine input) [ none ↦ buffer | some display ↦ after (answered input table display) buffer ]
 
--- the text comes to stand at the start of the buffer, whose other bytes are as they were; among names of equal length some order is taken
+-- the text comes to stand at the start of the buffer, whose other bytes are as they were
 pub record Run (input table work output buffer : List ℕ) (count : ℕ) (work′ output′ buffer′ : List ℕ) : Type 0 where
-  pub order : List Definition
-  pub ordered : Order (definitionsOr table) order
-  pub answers : count ≡ length (printed order input table)
-  pub writes : buffer′ ≡ printed order input table ++ drop (length (printed order input table)) buffer
-  pub clears : work′ ≡ bufferAfter workAfter order input table work
-  pub puts-out : output′ ≡ bufferAfter outputAfter order input table output
+  pub answers : count ≡ length (printed input table)
+  pub writes : buffer′ ≡ printed input table ++ drop (length (printed input table)) buffer
+  pub clears : work′ ≡ bufferAfter workAfter input table work
+  pub puts-out : output′ ≡ bufferAfter outputAfter input table output
 
 -- n bytes have been read into a buffer: all that there are, or as many as the buffer holds
 abbrev pub Read : List ℕ → ℕ → List ℕ → Type 0

@@ -1,13 +1,12 @@
 -- The definition table: records of a 16-bit header, most significant bit first (6 bits name length, 10 bits LaTeX length), a name and its LaTeX.
 --     definitions    the records of a table, or none where number 3 refuses it
---     Order          an order in which they may be applied: longer names first, and nothing said of names of equal length
+--     inOrder        the order in which they are applied: longer names first, names of equal length in ascending byte order
 -- Assumes nothing.
-use mathlib.Core.Path.{_≡_}
 use mathlib.Core.Bool.{Bool, true, false, not, cond, _&&_, _||_}
 use mathlib.Core.List.{List, [], _∷_, _++_}
 use mathlib.Core.Option.{Option, none, some, Option·map}
 use Prim.Native.Nat.{ℕ, zero, suc, _+_, _*_, _/_, _%_}
-use lib.Dec.{leb, ltb}
+use lib.Dec.{eqb, ltb}
 use lib.ListN.{length, take, drop}
 use Rattle.spec.specs.Symbols.{is, letter, alnum, foreign, head, all, any, same}
 
@@ -75,26 +74,26 @@ unfoldable pub definitions : List ℕ → Option (List Definition)
 unfolding records faulty
 definitions table = elim (ltb mostBytes (length table)) [ true ↦ none | false ↦ whole (records table) ]
 
--- ---- orders
-abbrev pub longerFirst : List Definition → Bool
-longerFirst [] = true
-longerFirst (d ∷ []) = true
-longerFirst (d ∷ e ∷ ds) = leb (length (e .name)) (length (d .name)) && longerFirst (e ∷ ds)
+-- ---- the order in which definitions are applied
+-- ascending byte order: digits, capitals, small letters
+abbrev pub lower : List ℕ → List ℕ → Bool
+lower s [] = false
+lower [] (y ∷ t) = true
+lower (x ∷ s) (y ∷ t) = ltb x y || (eqb x y && lower s t)
 
--- the records of the first list, each put in at some place
+-- longer names first, and names of equal length in byte order
+abbrev pub precedes : List ℕ → List ℕ → Bool
+precedes a b = ltb (length b) (length a) || (eqb (length a) (length b) && lower a b)
+
+abbrev pub inserted : Definition → List Definition → List Definition
+inserted d [] = d ∷ []
+inserted d (e ∷ es) = elim (precedes (d .name) (e .name)) [ true ↦ d ∷ e ∷ es | false ↦ e ∷ inserted d es ]
+
+unfoldable pub inOrder : List Definition → List Definition
+inOrder [] = []
+inOrder (d ∷ ds) = inserted d (inOrder ds)
+
+-- the records of the first list, each put in at some place: the same records in whatever order
 pub data Rearranged : List Definition → List Definition → Type 0 where
   nothing : Rearranged [] []
   put : {ds : List Definition} (d : Definition) (es fs : List Definition) → Rearranged ds (es ++ fs) → Rearranged (d ∷ ds) (es ++ d ∷ fs)
-
-pub record Order (ds order : List Definition) : Type 0 where
-  pub rearranged : Rearranged ds order
-  pub longer-first : longerFirst order ≡ true
-
--- one such order: names of equal length as they stand in the table
-abbrev pub inserted : Definition → List Definition → List Definition
-inserted d [] = d ∷ []
-inserted d (e ∷ es) = elim (leb (length (e .name)) (length (d .name))) [ true ↦ d ∷ e ∷ es | false ↦ e ∷ inserted d es ]
-
-unfoldable pub byLength : List Definition → List Definition
-byLength [] = []
-byLength (d ∷ ds) = inserted d (byLength ds)

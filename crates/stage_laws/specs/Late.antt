@@ -15,7 +15,7 @@ use Rattle.spec.specs.Result.{Result, passed, refused, _then_, mostSymbols, sta
 use Rattle.spec.specs.Held.{Held, holdTexts, holdBoth, inFull, heldStage, rustPutBack, putBack, withText}
 use Rattle.spec.specs.Calls.{convertOp, convertCases, convertAttach, convertBb, convertBold, convertBinom, convertUpright, convertFloor, convertCeil, convertAbs, convertCal, convertFrak, convertUprightAgain, convertFloorCeilAbs}
 use Rattle.spec.specs.Quotes.{convertTextQuotes}
-use Rattle.spec.specs.Table.{Definition}
+use Rattle.spec.specs.Table.{Definition, inOrder}
 use Rattle.spec.specs.Definitions.{applyDefinition, applyDefinitions, applyDefinitionsOutsideText}
 use Rattle.spec.specs.Rows.{Row, functionMappings, operatorReplacements, greekLetters, wordMappings, greekCapitals}
 use Rattle.spec.specs.Words.{convertSqrt, replaceRows, greek, wordOrLiteral, heldRows, convertWords, capital, capitals}
@@ -56,9 +56,9 @@ definitions-late (d ∷ ds) h = go (eqb (length (d .name)) 1) (definitions-late 
     go true next = next h
     go false next = then-late (applyDefinitions ds) (held-late (applyDefinition d) h) next
 
-outside-late : (order : List Definition) (s : List ℕ) → Late (applyDefinitionsOutsideText order s)
+outside-late : (ds : List Definition) (s : List ℕ) → Late (applyDefinitionsOutsideText ds s)
 unfolding applyDefinitionsOutsideText
-outside-late order s = then-late putBack (definitions-late order (holdTexts s)) back-late
+outside-late ds s = then-late putBack (definitions-late (inOrder ds) (holdTexts s)) back-late
 
 held-rows-late : (rule : Row → Rule) (rs : List Row) (h : Held) → Late (heldRows rule rs h)
 unfolding heldRows
@@ -154,9 +154,9 @@ floor-ceil-abs-late s =
     (stage-late convertFrak))
     (stage-late convertUprightAgain)
 
-pub stages-late : (order : List Definition) (display : Bool) (s : List ℕ) → Late (typstToLatex order display s)
+pub stages-late : (ds : List Definition) (display : Bool) (s : List ℕ) → Late (typstToLatex ds display s)
 unfolding typstToLatex
-stages-late order display s =
+stages-late ds display s =
     then-late _ (then-late _ (then-late _ (then-late _ (then-late _ (then-late _ (then-late _ (then-late _ (then-late _ (then-late _ (then-late _ (then-late _ (then-late _
     (stage-late markSolidus s)
     (stage-late convertOp))
@@ -168,7 +168,7 @@ stages-late order display s =
     (stage-late convertUpright))
     floor-ceil-abs-late)
     (stage-late convertTextQuotes))
-    (outside-late order))
+    (outside-late ds))
     (syntax-late display))
     (stage-late convertAlignment))
     (stage-late dropThinSpaceAfterCommands)

@@ -5,3 +5,4 @@ pub mod Calls
 pub mod Quotes
 pub mod Stages
 pub mod Outside
+pub mod SameRecords

@@ -13,7 +13,7 @@ use Rattle.spec.specs.Symbols.{bytes, is, any, textMark, romanMark, starts, unt
 use Rattle.spec.specs.Closing.{findMatchingBrace}
 use Rattle.spec.specs.Result.{Result, passed, refused, _then_, mostSymbols}
 use Rattle.spec.specs.Held.{Held, Taken, withText, leaving, taking, takeOut, holdTexts, inFull, heldStage, up, counted, placeholder, marks, numbered, numberedRomans, restored, rustPutBack, putBack}
-use Rattle.spec.specs.Table.{Definition}
+use Rattle.spec.specs.Table.{Definition, inOrder}
 use Rattle.spec.specs.Definitions.{applyDefinition, applyDefinitions, applyDefinitionsOutsideText}
 use Rattle.spec.specs.Laws.Booleans.{or-neither}
 use Rattle.stage_laws.specs.Each.{Each, done, more, EachPart, none-left, part, each-by, each-append, each-take, each-reverse, each-replace}
@@ -154,9 +154,9 @@ taken-parts name mark zero (more {x} {s} e a) = go (starts name (x ∷ s)) (find
     go true (some behind) next = part (each-take (length (x ∷ s) - length behind) (more e a)) (next (length (until s behind)))
     go false o next = next 0
 
-pub outside-passes : (order : List Definition) (s : List ℕ) → Each unmarked s → PassesUnmarked (applyDefinitionsOutsideText order s)
+pub outside-passes : (ds : List Definition) (s : List ℕ) → Each unmarked s → PassesUnmarked (applyDefinitionsOutsideText ds s)
 unfolding applyDefinitionsOutsideText holdTexts
-outside-passes order s a = go (definitions-holding order (holdTexts s) (record { texts = taken-parts (bytes "\\text{") textMark 0 (each-by unmarked-not-roman a); no-romans = refl }))
+outside-passes ds s a = go (definitions-holding (inOrder ds) (holdTexts s) (record { texts = taken-parts (bytes "\\text{") textMark 0 (each-by unmarked-not-roman a); no-romans = refl }))
   where
     go : {r : Result Held} → Holding r → PassesUnmarked (r then putBack)
     go (holding {h} o) = back-passes h o

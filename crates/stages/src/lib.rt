@@ -1,7 +1,6 @@
 // All stages, in the Rust's order and by its names.
 use text::Progress;
 ghost use Rattle.spec.specs.Result.{stage};
-ghost use Rattle.spec.specs.Table.{byLength};
 ghost use Rattle.spec.specs.Definitions.{applyDefinitionsOutsideText};
 ghost use Rattle.spec.specs.Fractions.{convertFractions};
 ghost use Rattle.spec.specs.Finish.{sizeDelimitersToContent};
@@ -13,7 +12,7 @@ ghost use Rattle.stages.specs.Fit.{Bare, Admissible};
 pub fn convert(work: &mut [u8], text: Progress, table: &[u8], display: bool) -> Progress
     requires { ⌜ Ready (now work) text ⌝ }
     requires { ⌜ Admissible (now table) (shown text (now work)) ⌝ }
-    ensures { λ r. ⌜ Answered (now (work .entry)) (now (work .exit)) text r (typstToLatex (byLength (definitionsOr (now (table .entry)))) display) ⌝ }
+    ensures { λ r. ⌜ Answered (now (work .entry)) (now (work .exit)) text r (typstToLatex (definitionsOr (now (table .entry))) display) ⌝ }
 {
     let t = escapes::mark_solidus(work, text);
     let t = call_single::convert_op(work, t);
@@ -56,7 +55,7 @@ fn convert_syntax(work: &mut [u8], text: Progress, display: bool) -> Progress
 fn apply_definitions_outside_text(work: &mut [u8], text: Progress, table: &[u8]) -> Progress
     requires { ⌜ Ready (now work) text ⌝ }
     requires { ⌜ Admissible (now table) (shown text (now work)) ⌝ }
-    ensures { λ r. ⌜ Answered (now (work .entry)) (now (work .exit)) text r (applyDefinitionsOutsideText (byLength (definitionsOr (now (table .entry))))) ⌝ }
+    ensures { λ r. ⌜ Answered (now (work .entry)) (now (work .exit)) text r (applyDefinitionsOutsideText (definitionsOr (now (table .entry)))) ⌝ }
 {
     let Progress::Text(_, _) = text else {
         return text;

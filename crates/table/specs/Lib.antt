@@ -3,5 +3,5 @@ pub mod Records
 pub mod Reading
 pub mod Listed
 pub mod Sound
+pub mod Names
 pub mod Order
-pub mod Sorted

@@ -1,121 +1,126 @@
--- The order of the definitions, as it is gone through.
---     ofLength         the records whose names have so many bytes
---     downFrom         those of n bytes, then those of n - 1, and so on
---     remaining        what is left of the order at a cursor
+-- The order of the definitions, as it is gone through: each next record is the first of those that are left.
+--     definitionsLeft        the records behind a cursor
+--     remaining              what is left of the order at a cursor
+--     Nexts                  what `next` ensures
 -- Assumes nothing.
-use mathlib.Core.Path.{_≡_, refl, ap, _∙_}
-use mathlib.Core.Bool.{true, false}
-use mathlib.Core.List.{List, [], _∷_, _++_}
-use Prim.Native.Nat.{ℕ, zero, suc, max, _-_, _<_}
-use native.Mathlib.Omega.{arith}
-use lib.Dec.{eqb}
-use lib.ListN.{length}
-use borrow.Author.Tests.{eq-eqb, ne-eqb}
-use Rattle.spec.specs.Table.{Definition}
-use Rattle.table.specs.Reading.{Lies, Short, ReadingLies, definitionAt}
-use Rattle.table.specs.Listed.{listed}
+use mathlib.Core.Path.{_≡_, refl, sym, ap, _∙_}
+use mathlib.Core.Bool.{Bool, true, false, true≢false}
+use mathlib.Core.List.{List, [], _∷_}
+use mathlib.Core.Option.{Option, none, some}
+use Prim.Native.Nat.{ℕ}
+use Rattle.spec.specs.Table.{Definition, definitions, precedes, inOrder}
+use Rattle.spec.specs.Laws.Order.{Distinct}
+use Rattle.spec.specs.Laws.Table.{sound-distinct}
+use Rattle.spec.specs.Laws.Selection.{
+  firstOf,
+  sooner,
+  first-in-order,
+  sooner-none,
+  sooner-assoc,
+  later,
+  later-with,
+  later-without,
+  later-later,
+  later-distinct,
+  first-later,
+  picked-next,
+  picked-none,
+}
+use Rattle.table.specs.Reading.{Lies, ReadingLies, definitionAt, nameAt}
+use Rattle.table.specs.Listed.{listed, listed-records}
+use Rattle.table.specs.Sound.{definitions-some}
 use Rattle.table.specs.declared.Record.{Record}
 use Rattle.table.specs.declared.Reading.{Reading}
 use Rattle.table.specs.declared.Reading.the-variants.{Whole, End, PastEnd}
 use Rattle.table.specs.declared.order.Cursor.{Cursor}
-use Rattle.table.specs.declared.order.NextRecord.{NextRecord}
-use Rattle.table.specs.declared.order.NextRecord.the-variants.{Next, Done}
+use Rattle.table.specs.declared.order.Cursor.the-variants.{Start, Behind}
 
-abbrev pub nameSize : Definition → ℕ
-nameSize d = length (d .name)
+-- the record of a cursor lies in the table
+abbrev pub Reached : List ℕ → Cursor → Type 0
+Reached s Start = Unit {0}
+Reached s (Behind r) = Lies s r
 
-abbrev pub ofLength : ℕ → List Definition → List Definition
-ofLength n [] = []
-ofLength n (d ∷ ds) = elim (eqb (nameSize d) n) [ true ↦ d ∷ ofLength n ds | false ↦ ofLength n ds ]
+abbrev pub isLeft : List ℕ → Cursor → List ℕ → Bool
+isLeft s Start name = true
+isLeft s (Behind r) name = precedes (nameAt s r) name
 
--- those of n bytes of the first list, then those of fewer bytes of the second, the longer ones first
-abbrev pub downFrom : ℕ → List Definition → List Definition → List Definition
-downFrom zero now all = []
-downFrom (suc n) now all = ofLength (suc n) now ++ downFrom n all all
+abbrev pub definitionsLeft : List ℕ → Cursor → List Definition → List Definition
+definitionsLeft s Start ds = ds
+definitionsLeft s (Behind r) ds = later (nameAt s r) ds
 
 unfoldable pub remaining : List ℕ → Cursor → List Definition
-remaining s c = downFrom (c .length) (listed s (c .at)) (listed s 0)
+remaining s c = inOrder (definitionsLeft s c (listed s 0))
 
--- the length of the longest name, if that is m at the least
-abbrev pub longest : ℕ → List Definition → ℕ
-longest m [] = m
-longest m (d ∷ ds) = longest (max m (nameSize d)) ds
+-- the definition that a reading stands for
+abbrev pub chosen : List ℕ → Reading → Option Definition
+chosen s (Whole r) = some (definitionAt s r)
+chosen s End = none
+chosen s PastEnd = none
 
 -- ---- what the functions ensure
--- of `Cursor::start`, for any table: it begins with the longest name, at the table's start. Of a sound one all of the order is left
--- then (`begins-order` in `Sorted`)
-pub record Begins (s : List ℕ) (c : Cursor) : Type 0 where
-  pub length : c .length ≡ longest 0 (listed s 0)
-  pub at : c .at ≡ 0
-
-abbrev pub definitionsOnward : List ℕ → NextRecord → List Definition
-definitionsOnward s (Next r c) = definitionAt s r ∷ remaining s c
-definitionsOnward s Done = []
-
--- the record of a step lies in the table
-pub data NextLies (s : List ℕ) : NextRecord → Type 0 where
-  taken : {r : Record} {c : Cursor} → Lies s r → Short r → NextLies s (Next r c)
-  done : NextLies s Done
-
-taken-lies : {s : List ℕ} {r : Record} {c : Cursor} → NextLies s (Next r c) → Lies s r
-taken-lies (taken l h) = l
-
-taken-short : {s : List ℕ} {r : Record} {c : Cursor} → NextLies s (Next r c) → Short r
-taken-short (taken l h) = h
-
--- of `Cursor::next`: the first of what is left, and the rest. A record counts by its definition, a cursor by what it leaves: where
--- they stand is open beyond that
-pub record Steps (s : List ℕ) (c : Cursor) (r : NextRecord) : Type 0 where
-  pub left : remaining s c ≡ definitionsOnward s r
-  pub lies : NextLies s r
-
--- what a step tells
-module _ {s : List ℕ} {c : Cursor} {x : NextRecord} where
-  pub steps-next : {r : Record} {c′ : Cursor} → Steps s c x → x ≡ Next r c′ → remaining s c ≡ definitionAt s r ∷ remaining s c′
-  steps-next step e = step .left ∙ ap (definitionsOnward s) e
-
-  pub steps-done : Steps s c x → x ≡ Done → remaining s c ≡ []
-  steps-done step e = step .left ∙ ap (definitionsOnward s) e
-
-  pub steps-lies : {r : Record} {c′ : Cursor} → Steps s c x → x ≡ Next r c′ → Lies s r
-  steps-lies step e = taken-lies (rw e at (step .lies))
-
-  pub steps-short : {r : Record} {c′ : Cursor} → Steps s c x → x ≡ Next r c′ → Short r
-  steps-short step e = taken-short (rw e at (step .lies))
-
--- of `record_of_length`: the first record of n bytes of name, and the others
-abbrev pub picked : List ℕ → ℕ → Reading → List Definition
-picked s n (Whole r) = definitionAt s r ∷ ofLength n (listed s (r .next))
-picked s n End = []
-picked s n PastEnd = []
-
-pub record Picks (s : List ℕ) (at n : ℕ) (r : Reading) : Type 0 where
-  pub left : ofLength n (listed s at) ≡ picked s n r
+-- of `sooner`
+pub record Sooner (s : List ℕ) (best : Reading) (found : Record) (r : Reading) : Type 0 where
+  pub choice : chosen s r ≡ sooner (chosen s best) (some (definitionAt s found))
   pub stands : ReadingLies s r
 
--- ---- the records of one length
-pub of-length-other : (n : ℕ) (d : Definition) (ds : List Definition) → (nameSize d ≡ n → ⊥) → ofLength n (d ∷ ds) ≡ ofLength n ds
-of-length-other n d ds h = rw (ne-eqb (nameSize d) n h, ofLength)
+-- of `next`: the first of the order of what is left. A record counts by its definition: where it stands is open beyond that
+pub record Nexts (s : List ℕ) (c : Cursor) (r : Reading) : Type 0 where
+  pub first : firstOf (inOrder (definitionsLeft s c (listed s 0))) ≡ chosen s r
+  pub stands : ReadingLies s r
 
-pub of-length-same : (n : ℕ) (d : Definition) (ds : List Definition) → nameSize d ≡ n → ofLength n (d ∷ ds) ≡ d ∷ ofLength n ds
-of-length-same n d ds h = rw (eq-eqb (nameSize d) n h, ofLength)
+-- ---- the loop of `next`: what has been chosen so far, beside the first of those that are left from the place on
+abbrev pub choosing : List ℕ → Cursor → Reading → ℕ → Option Definition
+choosing s c best at = sooner (chosen s best) (firstOf (inOrder (definitionsLeft s c (listed s at))))
 
--- ---- going on
-module _ (n : ℕ) (now all : List Definition) (more : 0 < n) where
-  -- the next record of n bytes of name
-  pub down-next : {d : Definition} (later : List Definition) → ofLength n now ≡ d ∷ ofLength n later → downFrom n now all ≡ d ∷ downFrom n later all
-  down-next {d} later e = go n refl
+module _ (s : List ℕ) where
+  pub choosing-none : (c : Cursor) (best : Reading) (at : ℕ) → listed s at ≡ [] → choosing s c best at ≡ chosen s best
+  unfolding inOrder
+  choosing-none Start best at e = ap (λ l. sooner (chosen s best) (firstOf (inOrder l))) e ∙ sooner-none (chosen s best)
+  choosing-none (Behind r) best at e = ap (λ l. sooner (chosen s best) (firstOf (inOrder (later (nameAt s r) l)))) e ∙ sooner-none (chosen s best)
+
+  module _ (c : Cursor) (best : Reading) (at : ℕ) (found : Record) (heads : listed s at ≡ definitionAt s found ∷ listed s (found .next)) where
+    left-with : (c : Cursor) → isLeft s c (nameAt s found) ≡ true → definitionsLeft s c (definitionAt s found ∷ listed s (found .next)) ≡ definitionAt s found ∷ definitionsLeft s c (listed s (found .next))
+    left-with Start h = refl
+    left-with (Behind r) h = later-with (nameAt s r) (definitionAt s found) (listed s (found .next)) h
+
+    left-without : (c : Cursor) → isLeft s c (nameAt s found) ≡ false → definitionsLeft s c (definitionAt s found ∷ listed s (found .next)) ≡ definitionsLeft s c (listed s (found .next))
+    left-without Start h = absurd (true≢false h)
+    left-without (Behind r) h = later-without (nameAt s r) (definitionAt s found) (listed s (found .next)) h
+
+    pub choosing-other : isLeft s c (nameAt s found) ≡ false → choosing s c best at ≡ choosing s c best (found .next)
+    choosing-other h = ap (λ l. sooner (chosen s best) (firstOf (inOrder l))) (ap (definitionsLeft s c) heads ∙ left-without c h)
+
+    pub choosing-found : {r : Reading} → isLeft s c (nameAt s found) ≡ true → Sooner s best found r → choosing s c best at ≡ choosing s c r (found .next)
+    choosing-found h so =
+        let rest = definitionsLeft s c (listed s (found .next)) in
+        ap (λ l. sooner (chosen s best) (firstOf (inOrder l))) (ap (definitionsLeft s c) heads ∙ left-with c h)
+        ∙ ap (sooner (chosen s best)) (first-in-order (definitionAt s found) rest)
+        ∙ sym (sooner-assoc (chosen s best) (definitionAt s found) (firstOf (inOrder rest)))
+        ∙ ap (λ o. sooner o (firstOf (inOrder rest))) (sym (so .choice))
+
+-- ---- from record to record, where no name occurs twice
+module _ {s : List ℕ} {c : Cursor} {x : Reading} (nexts : Nexts s c x) where
+  pub next-remaining : {r : Record} → Distinct (listed s 0) → x ≡ Whole r → remaining s c ≡ definitionAt s r ∷ remaining s (Behind r)
+  unfolding remaining
+  next-remaining {r} distinct e = go c (nexts .first ∙ ap (chosen s) e)
     where
-      go : (k : ℕ) → n ≡ k → downFrom k now all ≡ d ∷ downFrom k later all
-      go zero same = absurd (omega arith)
-      go (suc k) same = ap (λ l. l ++ downFrom k all all) (rw same at e)
+      m : Definition
+      m = definitionAt s r
 
-  -- there is none, so that shorter names come next
-  pub down-less : ofLength n now ≡ [] → downFrom n now all ≡ downFrom (n - 1) all all
-  down-less e = go n refl
-    where
-      go : (k : ℕ) → n ≡ k → downFrom k now all ≡ downFrom (k - 1) all all
-      go zero same = absurd (omega arith)
-      go (suc k) same =
-          let m : k ≡ suc k - 1 = omega arith in
-          ap (λ l. l ++ downFrom k all all) (rw same at e) ∙ ap (λ j. downFrom j all all) m
+      go : (c : Cursor) → firstOf (inOrder (definitionsLeft s c (listed s 0))) ≡ some m → inOrder (definitionsLeft s c (listed s 0)) ≡ m ∷ inOrder (later (m .name) (listed s 0))
+      go Start f = picked-next (listed s 0) m distinct f
+      go (Behind q) f =
+          picked-next (later (nameAt s q) (listed s 0)) m (later-distinct (nameAt s q) (listed s 0) distinct) f
+          ∙ ap (λ l. m ∷ inOrder l) (later-later (nameAt s q) (m .name) (listed s 0) (first-later (nameAt s q) (listed s 0) m f))
+
+  pub next-done : chosen s x ≡ none → remaining s c ≡ []
+  unfolding remaining
+  next-done e = picked-none (definitionsLeft s c (listed s 0)) (nexts .first ∙ e)
+
+-- ---- of a table that number 3 lets pass
+pub listed-distinct : (s : List ℕ) (ds : List Definition) → definitions s ≡ some ds → Distinct (listed s 0)
+listed-distinct s ds e = let known = definitions-some s ds e in rw (listed-records s ds (known .0)) (sound-distinct ds (known .1))
+
+pub remaining-start : (s : List ℕ) (ds : List Definition) → definitions s ≡ some ds → remaining s Start ≡ inOrder ds
+unfolding remaining
+remaining-start s ds e = ap inOrder (listed-records s ds (definitions-some s ds e .0))

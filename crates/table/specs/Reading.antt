@@ -75,6 +75,9 @@ stands-lies (whole l h) = l
 abbrev pub definitionAt : List ℕ → Record → Definition
 definitionAt s r = record { name = part (r .name) (r .latex - r .name) s; latex = part (r .latex) (r .next - r .latex) s }
 
+abbrev pub nameAt : List ℕ → Record → List ℕ
+nameAt s r = definitionAt s r .name
+
 pub length-name : {s : List ℕ} {r : Record} → Lies s r → length (definitionAt s r .name) ≡ r .latex - r .name
 length-name {s} {r} l = length-part (r .name) (r .latex - r .name) s (omega arith)
 

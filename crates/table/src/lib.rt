@@ -2,7 +2,7 @@
 mod order;
 
 pub use order::Cursor;
-pub use order::NextRecord;
+pub use order::next;
 ghost use Rattle.table.specs.Reading.{Reads};
 
 // A record's places in the table: the name lies from `name` to `latex`, the LaTeX from there to `next`, where the next record begins.

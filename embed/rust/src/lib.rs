@@ -35,8 +35,8 @@ thread_local! {
 
 /// The LaTeX of a formula, or why there is none. `display`: whether `a/b` becomes `\frac{a}{b}`.
 ///
-/// Definitions are applied longer names first and, among names of equal length, in the order of the alphabet, so that equal
-/// calls have equal answers. Definitions that fit no table are [`Refusal::FaultyTable`]; text that is not ASCII is
+/// Definitions are applied longer names first and, among names of equal length, in the order of their bytes, so equal calls have
+/// equal answers. Definitions that fit no table are [`Refusal::FaultyTable`]; text that is not ASCII is
 /// [`Refusal::ForeignByte`]. `NarrowWork` and `ShortOutput` don't occur.
 pub fn typst_to_latex(
     typst_math: &str,
@@ -91,13 +91,11 @@ pub fn plain_check(formula: &[u8]) -> Option<usize> {
     plain.then_some(atoms)
 }
 
-/// The definitions as a table, by name in the order of the alphabet. Where a record can't hold one, the table is cut off
+/// The definitions as a table, in the map's order, which does not matter. Where a record can't hold one, the table is cut off
 /// within its header, which is a fault like any other: the library decides which refusal comes first.
 fn table(definitions: &HashMap<String, String>) -> Vec<u8> {
-    let mut rows: Vec<(&String, &String)> = definitions.iter().collect();
-    rows.sort_unstable();
     let mut table = Vec::new();
-    for (name, latex) in rows {
+    for (name, latex) in definitions {
         if name.len() > NAME_BYTES || latex.len() > LATEX_BYTES {
             table.push(0);
             break;

@@ -17,10 +17,22 @@ fn converts() {
 }
 
 #[test]
-fn names_of_equal_length_are_applied_in_the_order_of_the_alphabet() {
+fn names_of_equal_length_are_applied_in_byte_order() {
     for _ in 0..20 {
-        let chain = defined(&[("ab", "cd"), ("cd", "x"), ("aa", "ab")]);
-        assert_eq!(typst_to_latex("aa", &chain, true).as_deref(), Ok("x"));
+        let chain = defined(&[("ab", "cd"), ("cd", "x"), ("aB", "ab"), ("a1", "aB")]);
+        assert_eq!(typst_to_latex("a1", &chain, true).as_deref(), Ok("x"));
+        let back = defined(&[("cd", "ab"), ("ab", "aB"), ("aB", "a1"), ("a1", "x")]);
+        assert_eq!(typst_to_latex("cd", &back, true).as_deref(), Ok("ab"));
+    }
+}
+
+#[test]
+fn the_order_of_the_records_does_not_matter() {
+    let records: [&[u8]; 3] = [b"\x08\x02abcd", b"\x08\x01cdx", b"\x0c\x02abcab"];
+    for order in [[0, 1, 2], [0, 2, 1], [1, 0, 2], [1, 2, 0], [2, 0, 1], [2, 1, 0]] {
+        let table = order.map(|i| records[i]).concat();
+        let (mut work, mut output) = ([7; WORK_BYTES], [7; OUTPUT_BYTES]);
+        assert_eq!(convert(b"abc", &table, true, &mut work, &mut output).map(<[u8]>::to_vec), Ok(b"x".to_vec()));
     }
 }
 

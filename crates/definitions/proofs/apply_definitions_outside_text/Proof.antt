@@ -1,7 +1,7 @@
 -- `definitions::apply_definitions_outside_text` meets its contract: between holding out and putting back, the stages are those of the definitions in their order. Assumes nothing.
 use mathlib.Core.Path.{ap}
 use Rattle.spec.specs.Held.{holdTexts}
-use Rattle.spec.specs.Table.{definitions, byLength}
+use Rattle.spec.specs.Table.{definitions, inOrder}
 use Rattle.spec.specs.Definitions.{applyDefinitions, applyDefinitionsOutsideText}
 use Rattle.text_symbols.specs.Parts.{part}
 use Rattle.text.specs.Stage.{shown}
@@ -14,7 +14,7 @@ use Rattle.definitions.proofs.apply_definitions_outside_text.Statement.
 use Rattle.definitions.proofs.apply_definitions_outside_text.Tie as tie
 
 returns : tie.Need-returns
-returns c = λ ds e. back-refused (applyDefinitionsOutsideText (byLength ds)) _ (c .enum-told .given .1)
+returns c = λ ds e. back-refused (applyDefinitionsOutsideText ds) _ (c .enum-told .given .1)
 
 hold-texts-requires : tie.Need-hold-texts-requires
 hold-texts-requires c κs =
@@ -30,7 +30,7 @@ put-all-back-requires c κs =
     let source = part (at-text .text .given .0 .0) (at-text .text .given .0 .1 .0) (at-start .args .work .now) in
     let extra = at-hold-texts .hold-texts .result .extra in
     let known = not-refused (definitions (at-start .args .table .now)) (at-start .pre .1 .1) in
-    let kept = definitions-kept extra (byLength (known .0)) (order-sound (at-start .args .table .now) (known .0) (known .1)) (holdTexts source) (from .extra) (from .well-made) in
+    let kept = definitions-kept extra (inOrder (known .0)) (order-sound (at-start .args .table .now) (known .0) (known .1)) (holdTexts source) (from .extra) (from .well-made) in
     let staged = c .before .before .before .apply-definitions .ensures (known .0) (known .1) in
     record { held = holdTexts source; carries = carries-staged from staged kept }
 
@@ -44,10 +44,10 @@ returns-2 c =
     let source = part (at-text .text .given .0 .0) (at-text .text .given .0 .1 .0) (at-start .args .work .now) in
     let extra = at-hold-texts .hold-texts .result .extra in
     λ ds e.
-    let kept = definitions-kept extra (byLength ds) (order-sound (at-start .args .table .now) ds e) (holdTexts source) (from .extra) (from .well-made) in
+    let kept = definitions-kept extra (inOrder ds) (order-sound (at-start .args .table .now) ds e) (holdTexts source) (from .extra) (from .well-made) in
     let staged = at-apply-definitions .apply-definitions .ensures ds e in
-    outside-answered from staged kept (applyDefinitions (byLength ds)) (definitions-held extra (byLength ds) (order-sound (at-start .args .table .now) ds e) (holdTexts source) (from .extra) (from .well-made))
-    (ap (λ q. shown q (at-start .args .work .now)) (at-text .text .given .1)) (c .before .before .put-all-back .ensures (holdTexts source) (carries-staged from staged kept)) (applyDefinitionsOutsideText (byLength ds)) (outside-by-held (byLength ds) source)
+    outside-answered from staged kept (applyDefinitions (inOrder ds)) (definitions-held extra (inOrder ds) (order-sound (at-start .args .table .now) ds e) (holdTexts source) (from .extra) (from .well-made))
+    (ap (λ q. shown q (at-start .args .work .now)) (at-text .text .given .1)) (c .before .before .put-all-back .ensures (holdTexts source) (carries-staged from staged kept)) (applyDefinitionsOutsideText ds) (outside-by-held ds source)
 
 pub apply-definitions-outside-text-spec : {M : Type 1} → statement M
 apply-definitions-outside-text-spec =

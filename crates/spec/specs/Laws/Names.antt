@@ -3,7 +3,7 @@
 --     InRow, row-of, row-one-of    a text is one of the names exactly if it stands in a row
 --     allRows, row-rule            a rule for every row: a test, which antt computes, and what it says of a row
 -- Assumes nothing.
-use mathlib.Core.Path.{_≡_, refl, ap, ap₂}
+use mathlib.Core.Path.{_≡_, refl, sym, ap, ap₂}
 use mathlib.Core.Bool.{Bool, true, false, _&&_, and-comm, and-false, false≢true}
 use mathlib.Core.List.{List, [], _∷_}
 use Prim.Native.Nat.{ℕ, zero, suc, _<_}
@@ -11,7 +11,7 @@ use native.Mathlib.Nat.{not-suc-le-zero, le-of-suc-le-suc}
 use native.Mathlib.Omega.{arith}
 use lib.Dec.{eqb}
 use lib.ListN.{length, getD}
-use borrow.Author.Tests.{eqb-true, eq-eqb}
+use borrow.Author.Tests.{eqb-true, eqb-false, eq-eqb, ne-eqb}
 use Rattle.spec.specs.Symbols.{same, starts}
 use Rattle.spec.specs.Finish.{oneOf}
 use Rattle.spec.specs.Laws.Booleans.{and-left, and-right, or-left, or-right, or-split}
@@ -38,6 +38,19 @@ same-starts [] [] h = refl
 same-starts [] (y ∷ t) h = absurd (omega arith)
 same-starts (x ∷ s) [] h = absurd (omega arith)
 same-starts (x ∷ s) (y ∷ t) h = rw (same-starts s t (omega arith)) (and-comm (eqb x y) (starts t s))
+
+eqb-sym : (x y : ℕ) → eqb x y ≡ eqb y x
+eqb-sym x y = go (eqb x y) refl
+  where
+    go : (t : Bool) → eqb x y ≡ t → t ≡ eqb y x
+    go true e = sym (eq-eqb y x (sym (eqb-true x y e)))
+    go false e = sym (ne-eqb y x (λ q. eqb-false x y e (sym q)))
+
+pub same-sym : (s t : List ℕ) → same s t ≡ same t s
+same-sym [] [] = refl
+same-sym [] (y ∷ t) = refl
+same-sym (x ∷ s) [] = refl
+same-sym (x ∷ s) (y ∷ t) = ap₂ (λ a b. a && b) (eqb-sym x y) (same-sym s t)
 
 -- ---- one of the names
 pub record InRow (names : List (List ℕ)) (s : List ℕ) : Type 0 where

@@ -1,80 +1,156 @@
--- There is an order of the definitions in which longer names come first: `byLength` is one. And a sound name is not empty. Assumes nothing.
-use mathlib.Core.Path.{_≡_, refl, sym, ap, subst}
-use mathlib.Core.Bool.{Bool, true, false, true≢false}
+-- Laws of tables: what does not depend on the order of their records, and what number 3 and admission make of them. Assumes nothing.
+--     records-long, bytes-same, length-same, faulty-same    the same records in whatever order are as long, as many and as faulty
+--     definitions-judged    number 3, by the records
+--     admitted-same         of the table, admission asks only whether it is readable
+--     sound-distinct        no name of a sound table occurs twice
+--     sound-name-some       a sound name is not empty
+use mathlib.Core.Path.{_≡_, refl, sym, ap, ap₂, _∙_}
+use mathlib.Core.Bool.{Bool, true, false, cond, _||_, or-true, true≢false}
 use mathlib.Core.List.{List, [], _∷_, _++_}
-use Prim.Native.Nat.{ℕ, _<_}
+use mathlib.Core.Option.{Option, none, some, Option·map, Option·none-ne-some}
+use Prim.Native.Nat.{ℕ, zero, suc, _+_, _≤_, _<_}
 use native.Mathlib.Omega.{arith}
-use lib.Dec.{leb}
-use lib.ListN.{length}
-use borrow.Author.Tests.{le-leb, leb-false}
-use Rattle.spec.specs.Laws.Booleans.{and-parts}
-use Rattle.spec.specs.Table.{Definition, Rearranged, nothing, put, Order, longerFirst, inserted, byLength, faultyName}
+use lib.Dec.{ltb}
+use lib.ListN.{length, take, drop, length-take, length-drop}
+use borrow.Author.Tests.{ltb-false}
+use Rattle.spec.specs.Symbols.{any, foreign, same}
+use Rattle.spec.specs.Result.{Result, refused}
+use Rattle.spec.specs.Table.{
+  Definition,
+  mostBytes,
+  mostRecords,
+  nameLength,
+  latexLength,
+  definitionOf,
+  recordsWith,
+  records,
+  faultyName,
+  faultyLatex,
+  named,
+  faulty,
+  whole,
+  definitions,
+  Rearranged,
+  nothing,
+  put,
+}
+use Rattle.spec.specs.Pipeline.{mostFormula, leastWork, readable, admitted}
+use Rattle.spec.specs.Laws.Booleans.{or-neither}
+use Rattle.spec.specs.Laws.Names.{same-sym}
+use Rattle.spec.specs.Laws.Order.{named-put, named-same, Distinct}
 
-abbrev fits : Definition → Definition → Bool
-fits d e = leb (length (e .name)) (length (d .name))
+-- ---- how long it is
+-- the bytes of records: a header of two, the name, the LaTeX
+abbrev pub bytesOf : List Definition → ℕ
+bytesOf [] = 0
+bytesOf (d ∷ ds) = 2 + (length (d .name) + length (d .latex)) + bytesOf ds
 
--- where d is put in
-record Split (d : Definition) (ds : List Definition) : Type 0 where
-  before : List Definition
-  behind : List Definition
-  whole : before ++ behind ≡ ds
-  placed : before ++ d ∷ behind ≡ inserted d ds
+bytes-put : (d : Definition) (es fs : List Definition) → bytesOf (es ++ d ∷ fs) ≡ bytesOf (d ∷ (es ++ fs))
+bytes-put d [] fs = refl
+bytes-put d (e ∷ es) fs = let h = bytes-put d es fs in omega arith
 
-split : (d : Definition) (ds : List Definition) → Split d ds
-split d [] = record { before = []; behind = []; whole = refl; placed = refl }
-split d (e ∷ es) = go (fits d e) refl (split d es)
+pub bytes-same : {ds es : List Definition} → Rearranged ds es → bytesOf ds ≡ bytesOf es
+bytes-same nothing = refl
+bytes-same (put d es fs r) = ap (λ n. 2 + (length (d .name) + length (d .latex)) + n) (bytes-same r) ∙ sym (bytes-put d es fs)
+
+length-put : (d : Definition) (es fs : List Definition) → length (es ++ d ∷ fs) ≡ suc (length (es ++ fs))
+length-put d [] fs = refl
+length-put d (e ∷ es) fs = ap suc (length-put d es fs)
+
+pub length-same : {ds es : List Definition} → Rearranged ds es → length ds ≡ length es
+length-same nothing = refl
+length-same (put d es fs r) = ap suc (length-same r) ∙ sym (length-put d es fs)
+
+records-with-long : (k : ℕ) (s : List ℕ) (ds : List Definition) → length s ≤ k → recordsWith k s ≡ some ds → length s ≡ bytesOf ds
+unfolding recordsWith
+records-with-long zero [] ds h e = let q : [] ≡ ds = cc in ap bytesOf q
+records-with-long zero (x ∷ s) ds h e = absurd (omega arith)
+records-with-long (suc k) [] ds h e = let q : [] ≡ ds = cc in ap bytesOf q
+records-with-long (suc k) (x ∷ []) ds h e = absurd (Option·none-ne-some ds e)
+records-with-long (suc k) (high ∷ low ∷ rest) ds h e =
+    go (ltb (length rest) (n + l)) refl (recordsWith k (drop (n + l) rest)) refl (records-with-long k (drop (n + l) rest)) e
   where
-    go : (t : Bool) → fits d e ≡ t → Split d es → Split d (e ∷ es)
-    go true h s = record { before = []; behind = e ∷ es; whole = refl; placed = rw (h, inserted) }
-    go false h s = record { before = e ∷ s .before; behind = s .behind; whole = ap (λ l. e ∷ l) (s .whole); placed = rw (h, inserted) (ap (λ l. e ∷ l) (s .placed)) }
+    n : ℕ
+    n = nameLength high
 
-pub rearranged-by-length : (ds : List Definition) → Rearranged ds (byLength ds)
-unfolding byLength
-rearranged-by-length [] = nothing
-rearranged-by-length (d ∷ ds) =
-    let s = split d (byLength ds) in
-    subst (Rearranged (d ∷ ds)) (s .placed) (put d (s .before) (s .behind) (subst (Rearranged ds) (sym (s .whole)) (rearranged-by-length ds)))
+    l : ℕ
+    l = latexLength high low
 
--- ---- longer names first
--- e is no shorter than the first of ds
-abbrev leads : Definition → List Definition → Bool
-leads e [] = true
-leads e (d ∷ ds) = fits e d
+    go : (past : Bool) → ltb (length rest) (n + l) ≡ past → (o : Option (List Definition)) → recordsWith k (drop (n + l) rest) ≡ o
+        → ((es : List Definition) → length (drop (n + l) rest) ≤ k → recordsWith k (drop (n + l) rest) ≡ some es → length (drop (n + l) rest) ≡ bytesOf es)
+        → elim past as (λ _. Option (List Definition)) [ true ↦ none | false ↦ Option·map (λ (es : List Definition). definitionOf n l rest ∷ es) o ] ≡ some ds
+        → suc (suc (length rest)) ≡ bytesOf ds
+    go true p o r later e = absurd (Option·none-ne-some ds e)
+    go false p none r later e = absurd (Option·none-ne-some ds e)
+    go false p (some es) r later e =
+        let fits = ltb-false (length rest) (n + l) p in
+        let d = length-drop (n + l) rest in
+        let a = length-take n rest in
+        let b = length-take l (drop n rest) in
+        let c = length-drop n rest in
+        let rest-long = later es (omega arith) r in
+        let q : definitionOf n l rest ∷ es ≡ ds = cc in
+        let whole : suc (suc (length rest)) ≡ bytesOf (definitionOf n l rest ∷ es) = omega arith in
+        whole ∙ ap bytesOf q
 
-first-cons : (e : Definition) (ds : List Definition) → leads e ds ≡ true → longerFirst ds ≡ true → longerFirst (e ∷ ds) ≡ true
-first-cons e [] h g = refl
-first-cons e (d ∷ ds) h g = rw (h, g)
+pub records-long : (s : List ℕ) (ds : List Definition) → records s ≡ some ds → length s ≡ bytesOf ds
+unfolding records
+records-long s ds e = records-with-long (length s) s ds (omega arith) e
 
-first-parts : (e : Definition) (ds : List Definition) → longerFirst (e ∷ ds) ≡ true → (leads e ds ≡ true) × (longerFirst ds ≡ true)
-first-parts e [] h = (refl, refl)
-first-parts e (d ∷ ds) h = and-parts (fits e d) (longerFirst (d ∷ ds)) h
+-- ---- its faults
+faults-swap : (a b s m c d n f : Bool) → a || (b || ((s || m) || (c || (d || (n || f))))) ≡ c || (d || ((s || n) || (a || (b || (m || f)))))
+faults-swap true b s m c d n f = simp or-true
+faults-swap false true s m c d n f = simp or-true
+faults-swap false false true m c d n f = simp or-true
+faults-swap false false false true c d n f = simp or-true
+faults-swap false false false false c d n f = refl
 
-still-leads : (e d : Definition) (ds : List Definition) → leads e ds ≡ true → fits e d ≡ true → leads e (inserted d ds) ≡ true
-still-leads e d [] h g = g
-still-leads e d (f ∷ fs) h g = go (fits d f) refl
-  where
-    go : (t : Bool) → fits d f ≡ t → leads e (inserted d (f ∷ fs)) ≡ true
-    go true k = rw (k, inserted) g
-    go false k = rw (k, inserted) h
+faulty-put : (d : Definition) (es fs : List Definition) → faulty (es ++ d ∷ fs) ≡ faulty (d ∷ (es ++ fs))
+unfolding faulty
+faulty-put d [] fs = refl
+faulty-put d (e ∷ es) fs =
+    ap₂ (λ known later. faultyName (e .name) || (faultyLatex (e .latex) || (known || later))) (named-put (e .name) d es fs) (faulty-put d es fs)
+    ∙ faults-swap (faultyName (e .name)) (faultyLatex (e .latex)) (same (e .name) (d .name)) (named (e .name) (es ++ fs)) (faultyName (d .name))
+    (faultyLatex (d .latex)) (named (d .name) (es ++ fs)) (faulty (es ++ fs))
+    ∙ ap (λ t. faultyName (d .name) || (faultyLatex (d .latex) || ((t || named (d .name) (es ++ fs)) || faulty (e ∷ (es ++ fs))))) (same-sym (e .name) (d .name))
 
-pub longer-first-inserted : (d : Definition) (ds : List Definition) → longerFirst ds ≡ true → longerFirst (inserted d ds) ≡ true
-longer-first-inserted d [] h = refl
-longer-first-inserted d (e ∷ es) h = go (fits d e) refl (longer-first-inserted d es (first-parts e es h .1))
-  where
-    go : (t : Bool) → fits d e ≡ t → longerFirst (inserted d es) ≡ true → longerFirst (inserted d (e ∷ es)) ≡ true
-    go true k later = rw (k, inserted) (first-cons d (e ∷ es) k h)
-    go false k later =
-        let longer = leb-false (length (e .name)) (length (d .name)) k in
-        let fit : fits e d ≡ true = le-leb (length (d .name)) (length (e .name)) (omega arith) in
-        rw (k, inserted) (first-cons e (inserted d es) (still-leads e d es (first-parts e es h .0) fit) later)
+pub faulty-same : {ds es : List Definition} → Rearranged ds es → faulty ds ≡ faulty es
+unfolding faulty
+faulty-same nothing = refl
+faulty-same (put d es fs r) =
+    ap₂ (λ known later. faultyName (d .name) || (faultyLatex (d .latex) || (known || later))) (named-same r (d .name)) (faulty-same r) ∙ sym (faulty-put d es fs)
 
-pub longer-first-by-length : (ds : List Definition) → longerFirst (byLength ds) ≡ true
-unfolding byLength
-longer-first-by-length [] = refl
-longer-first-by-length (d ∷ ds) = longer-first-inserted d (byLength ds) (longer-first-by-length ds)
+pub sound-distinct : (ds : List Definition) → faulty ds ≡ false → Distinct ds
+unfolding faulty
+sound-distinct [] e = tt
+sound-distinct (d ∷ ds) e =
+    let latex = or-neither (faultyName (d .name)) (faultyLatex (d .latex) || (named (d .name) ds || faulty ds)) e .1 in
+    let rest = or-neither (faultyLatex (d .latex)) (named (d .name) ds || faulty ds) latex .1 in
+    (or-neither (named (d .name) ds) (faulty ds) rest .0, sound-distinct ds (or-neither (named (d .name) ds) (faulty ds) rest .1))
 
-pub by-length-order : (ds : List Definition) → Order ds (byLength ds)
-by-length-order ds = record { rearranged = rearranged-by-length ds; longer-first = longer-first-by-length ds }
+-- what `definitions` makes of records, by whether the table is too long and whether they are too many or faulty
+abbrev pub judged : Bool → Bool → List Definition → Option (List Definition)
+judged long wrong ds = elim long [ true ↦ none | false ↦ cond wrong none (some ds) ]
+
+abbrev pub wrong : List Definition → Bool
+wrong ds = ltb mostRecords (length ds) || faulty ds
+
+pub definitions-judged : (s : List ℕ) (ds : List Definition) → records s ≡ some ds → definitions s ≡ judged (ltb mostBytes (length s)) (wrong ds) ds
+unfolding definitions
+definitions-judged s ds e = ap (λ o. elim (ltb mostBytes (length s)) as (λ _. Option (List Definition)) [ true ↦ none | false ↦ whole o ]) e
+
+-- of the table, admission asks only whether it is readable
+pub admitted-same :
+    (formula table table′ work : List ℕ) → readable formula (definitions table) ≡ readable formula (definitions table′)
+    → admitted formula table work ≡ admitted formula table′ work
+admitted-same formula table table′ work e =
+    ap (λ r. elim (ltb (length work) leastWork) as (λ _. Result (List ℕ)) [
+      | true ↦ refused 4
+      | false ↦ elim (ltb mostFormula (length formula)) as (λ _. Result (List ℕ)) [
+        | true ↦ refused 2
+        | false ↦ elim (any foreign formula) as (λ _. Result (List ℕ)) [ true ↦ refused 1 | false ↦ r ]
+      ]
+    ]) e
 
 -- ---- names
 pub sound-name-some : (name : List ℕ) → faultyName name ≡ false → 0 < length name
