@@ -19,7 +19,7 @@ use Rattle.spec.specs.Finish.{convertAlignment, dropThinSpaceAfterCommands}
 use Rattle.spec.specs.Pipeline.{markSolidus, convertSyntax, typstToLatex, definitionsOr, readable, admitted, fitting, converted, answerOf, outputAfter, workAfter, Call}
 use Rattle.spec.specs.Laws.Booleans.{or-neither}
 use Rattle.spec.specs.Laws.Order.{in-order-same}
-use Rattle.spec.specs.Laws.Table.{records-long, bytes-same, length-same, faulty-same, sound-distinct, judged, wrong, definitions-judged, admitted-same}
+use Rattle.spec.specs.Laws.Table.{records-long, bytes-same, length-same, faulty-same, sound-distinct, definitionsUnless, wrong, definitions-unless, admitted-same}
 
 pub record SameRecords (table table′ : List ℕ) : Type 0 where
   pub first : List Definition
@@ -68,12 +68,12 @@ module _ {table table′ : List ℕ} (t : SameRecords table table′) where
   definitions-same :
       (formula : List ℕ) → (readable formula (definitions table) ≡ readable formula (definitions table′)) × (inOrder (definitionsOr table) ≡ inOrder (definitionsOr table′))
   definitions-same formula =
-      rw (definitions-judged table (t .first) (t .read), definitions-judged table′ (t .second) (t .read′), ← long, ← wrong-same)
+      rw (definitions-unless table (t .first) (t .read), definitions-unless table′ (t .second) (t .read′), ← long, ← wrong-same)
       (go (ltb mostBytes (length table)) (wrong (t .first)) refl)
     where
       go : (a b : Bool) → wrong (t .first) ≡ b
-          → (readable formula (judged a b (t .first)) ≡ readable formula (judged a b (t .second)))
-          × (inOrder (Option·getD (judged a b (t .first)) []) ≡ inOrder (Option·getD (judged a b (t .second)) []))
+          → (readable formula (definitionsUnless a b (t .first)) ≡ readable formula (definitionsUnless a b (t .second)))
+          × (inOrder (Option·getD (definitionsUnless a b (t .first)) []) ≡ inOrder (Option·getD (definitionsUnless a b (t .second)) []))
       go true b h = (refl, refl)
       go false true h = (refl, refl)
       go false false h = (

@@ -1,6 +1,6 @@
 -- Laws of tables: what does not depend on the order of their records, and what number 3 and admission make of them. Assumes nothing.
 --     records-long, bytes-same, length-same, faulty-same    the same records in whatever order are as long, as many and as faulty
---     definitions-judged    number 3, by the records
+--     definitions-unless    number 3, by the records
 --     admitted-same         of the table, admission asks only whether it is readable
 --     sound-distinct        no name of a sound table occurs twice
 --     sound-name-some       a sound name is not empty
@@ -41,15 +41,15 @@ use Rattle.spec.specs.Laws.Order.{named-put, named-same, Distinct}
 
 -- ---- how long it is
 -- the bytes of records: a header of two, the name, the LaTeX
-abbrev pub bytesOf : List Definition → ℕ
-bytesOf [] = 0
-bytesOf (d ∷ ds) = 2 + (length (d .name) + length (d .latex)) + bytesOf ds
+abbrev pub bytesOfRecords : List Definition → ℕ
+bytesOfRecords [] = 0
+bytesOfRecords (d ∷ ds) = 2 + (length (d .name) + length (d .latex)) + bytesOfRecords ds
 
-bytes-put : (d : Definition) (es fs : List Definition) → bytesOf (es ++ d ∷ fs) ≡ bytesOf (d ∷ (es ++ fs))
+bytes-put : (d : Definition) (es fs : List Definition) → bytesOfRecords (es ++ d ∷ fs) ≡ bytesOfRecords (d ∷ (es ++ fs))
 bytes-put d [] fs = refl
 bytes-put d (e ∷ es) fs = let h = bytes-put d es fs in omega arith
 
-pub bytes-same : {ds es : List Definition} → Rearranged ds es → bytesOf ds ≡ bytesOf es
+pub bytes-same : {ds es : List Definition} → Rearranged ds es → bytesOfRecords ds ≡ bytesOfRecords es
 bytes-same nothing = refl
 bytes-same (put d es fs r) = ap (λ n. 2 + (length (d .name) + length (d .latex)) + n) (bytes-same r) ∙ sym (bytes-put d es fs)
 
@@ -61,11 +61,11 @@ pub length-same : {ds es : List Definition} → Rearranged ds es → length ds �
 length-same nothing = refl
 length-same (put d es fs r) = ap suc (length-same r) ∙ sym (length-put d es fs)
 
-records-with-long : (k : ℕ) (s : List ℕ) (ds : List Definition) → length s ≤ k → recordsWith k s ≡ some ds → length s ≡ bytesOf ds
+records-with-long : (k : ℕ) (s : List ℕ) (ds : List Definition) → length s ≤ k → recordsWith k s ≡ some ds → length s ≡ bytesOfRecords ds
 unfolding recordsWith
-records-with-long zero [] ds h e = let q : [] ≡ ds = cc in ap bytesOf q
+records-with-long zero [] ds h e = let q : [] ≡ ds = cc in ap bytesOfRecords q
 records-with-long zero (x ∷ s) ds h e = absurd (omega arith)
-records-with-long (suc k) [] ds h e = let q : [] ≡ ds = cc in ap bytesOf q
+records-with-long (suc k) [] ds h e = let q : [] ≡ ds = cc in ap bytesOfRecords q
 records-with-long (suc k) (x ∷ []) ds h e = absurd (Option·none-ne-some ds e)
 records-with-long (suc k) (high ∷ low ∷ rest) ds h e =
     go (ltb (length rest) (n + l)) refl (recordsWith k (drop (n + l) rest)) refl (records-with-long k (drop (n + l) rest)) e
@@ -77,9 +77,9 @@ records-with-long (suc k) (high ∷ low ∷ rest) ds h e =
     l = latexLength high low
 
     go : (past : Bool) → ltb (length rest) (n + l) ≡ past → (o : Option (List Definition)) → recordsWith k (drop (n + l) rest) ≡ o
-        → ((es : List Definition) → length (drop (n + l) rest) ≤ k → recordsWith k (drop (n + l) rest) ≡ some es → length (drop (n + l) rest) ≡ bytesOf es)
+        → ((es : List Definition) → length (drop (n + l) rest) ≤ k → recordsWith k (drop (n + l) rest) ≡ some es → length (drop (n + l) rest) ≡ bytesOfRecords es)
         → elim past as (λ _. Option (List Definition)) [ true ↦ none | false ↦ Option·map (λ (es : List Definition). definitionOf n l rest ∷ es) o ] ≡ some ds
-        → suc (suc (length rest)) ≡ bytesOf ds
+        → suc (suc (length rest)) ≡ bytesOfRecords ds
     go true p o r later e = absurd (Option·none-ne-some ds e)
     go false p none r later e = absurd (Option·none-ne-some ds e)
     go false p (some es) r later e =
@@ -90,10 +90,10 @@ records-with-long (suc k) (high ∷ low ∷ rest) ds h e =
         let c = length-drop n rest in
         let rest-long = later es (omega arith) r in
         let q : definitionOf n l rest ∷ es ≡ ds = cc in
-        let whole : suc (suc (length rest)) ≡ bytesOf (definitionOf n l rest ∷ es) = omega arith in
-        whole ∙ ap bytesOf q
+        let whole : suc (suc (length rest)) ≡ bytesOfRecords (definitionOf n l rest ∷ es) = omega arith in
+        whole ∙ ap bytesOfRecords q
 
-pub records-long : (s : List ℕ) (ds : List Definition) → records s ≡ some ds → length s ≡ bytesOf ds
+pub records-long : (s : List ℕ) (ds : List Definition) → records s ≡ some ds → length s ≡ bytesOfRecords ds
 unfolding records
 records-long s ds e = records-with-long (length s) s ds (omega arith) e
 
@@ -129,15 +129,15 @@ sound-distinct (d ∷ ds) e =
     (or-neither (named (d .name) ds) (faulty ds) rest .0, sound-distinct ds (or-neither (named (d .name) ds) (faulty ds) rest .1))
 
 -- what `definitions` makes of records, by whether the table is too long and whether they are too many or faulty
-abbrev pub judged : Bool → Bool → List Definition → Option (List Definition)
-judged long wrong ds = elim long [ true ↦ none | false ↦ cond wrong none (some ds) ]
+abbrev pub definitionsUnless : Bool → Bool → List Definition → Option (List Definition)
+definitionsUnless long wrong ds = elim long [ true ↦ none | false ↦ cond wrong none (some ds) ]
 
 abbrev pub wrong : List Definition → Bool
 wrong ds = ltb mostRecords (length ds) || faulty ds
 
-pub definitions-judged : (s : List ℕ) (ds : List Definition) → records s ≡ some ds → definitions s ≡ judged (ltb mostBytes (length s)) (wrong ds) ds
+pub definitions-unless : (s : List ℕ) (ds : List Definition) → records s ≡ some ds → definitions s ≡ definitionsUnless (ltb mostBytes (length s)) (wrong ds) ds
 unfolding definitions
-definitions-judged s ds e = ap (λ o. elim (ltb mostBytes (length s)) as (λ _. Option (List Definition)) [ true ↦ none | false ↦ whole o ]) e
+definitions-unless s ds e = ap (λ o. elim (ltb mostBytes (length s)) as (λ _. Option (List Definition)) [ true ↦ none | false ↦ whole o ]) e
 
 -- of the table, admission asks only whether it is readable
 pub admitted-same :
