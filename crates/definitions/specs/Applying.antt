@@ -4,8 +4,8 @@
 --     DefinitionsLeft      the loop: the definitions from a cursor on are left, and all of them may be applied
 -- Assumes nothing.
 use mathlib.Core.Path.{_≡_, refl, sym, ap, _∙_, subst}
-use mathlib.Core.Bool.{Bool, true, false, cond}
-use mathlib.Core.List.{List, [], _∷_}
+use mathlib.Core.Bool.{Bool, true, false, cond, _||_}
+use mathlib.Core.List.{List, [], _∷_, map}
 use mathlib.Core.Option.{some}
 use Prim.Native.Nat.{ℕ, _+_, _-_, _<_}
 use native.Mathlib.Omega.{arith}
@@ -17,17 +17,20 @@ use Rattle.spec.specs.Result.{Result, passed, refused, _then_, mostSymbols}
 use Rattle.spec.specs.Held.{Held, withText, heldStage, holdTexts, putBack}
 use Rattle.spec.specs.Table.{Definition, definitions, inOrder}
 use Rattle.spec.specs.Definitions.{defined, applyDefinition, applyDefinitions, applyDefinitionsOutsideText}
+use Rattle.spec.specs.Matches.{definedMatch}
 use Rattle.spec.specs.Laws.Order.{rearranged-in-order}
 use Rattle.spec.specs.Laws.Table.{sound-name-some}
-use Rattle.spec.specs.Laws.Order.{rearranged-in-order}
+use Rattle.spec.specs.Laws.Matches.{unmatched-rearranged}
 use Rattle.text_symbols.specs.Parts.{length-part}
 use Rattle.text.specs.Stage.{Ready, shown}
+use Rattle.text.specs.Untouched.{Untouched, untouched-alike, EntriesLeft, entries-none, entries-more, entries-all}
 use Rattle.text.specs.declared.Progress.{Progress}
 use Rattle.held_laws.specs.WellMade.{WellMade}
 use Rattle.held_laws.specs.Rewriting.{sweep-made}
 use Rattle.held_laws.specs.Instances.{SoundDefinition, EverySound, defined-between, sound-table, sound-order, definitions-made}
-use Rattle.name_entry.specs.Bounded.{EntryTextsFit}
-use Rattle.name_entry.specs.Sized.{sized, FitsWithBlocks, Applied, StagedWithin, Remaining, remaining-none, remaining-step}
+use Rattle.name_entry.specs.declared.bounds.Bounds.the-variants.{Defined}
+use Rattle.name_entry.specs.Bounded.{EntryTextsFit, boundedMatch, defined-matches}
+use Rattle.name_entry.specs.Sized.{sized, FitsWithBlocks, StagedWithin, Remaining, remaining-none, remaining-step}
 use Rattle.table.specs.declared.Record.{Record}
 use Rattle.table.specs.declared.order.Cursor.{Cursor}
 use Rattle.table.specs.declared.order.Cursor.the-variants.{Start, Behind}
@@ -81,23 +84,22 @@ module _ {table : List ℕ} {r : Record} (usable : Usable table r) where
 
   pub applied :
       {w w′ : List ℕ} {p p′ : Progress} {extra : ℕ} → (r .latex - r .name ≡ 1 → ⊥)
-      → Applied w w′ p p′ extra (definitionAt table r .name) (sweep (defined (definitionAt table r)) 0 0)
-      → StagedWithin w w′ p p′ extra (sizedDefinition extra (definitionAt table r))
+      → StagedWithin w w′ p p′ extra (sized extra (sweep (defined (definitionAt table r)) 0 0)) × Untouched w w′ p p′ (boundedMatch Defined (definitionAt table r .name) ∷ [])
+      → StagedWithin w w′ p p′ extra (sizedDefinition extra (definitionAt table r)) × Untouched w w′ p p′ (definedMatch (definitionAt table r) ∷ [])
   unfolding sizedDefinition applyDefinition
   applied {w} {p = p} {extra = extra} more a =
       let n = length-name (usable .lies) in
       let e = ne-eqb (length (definitionAt table r .name)) 1 (λ one. more (sym n ∙ one)) in
-      record {
-        staged = record {
-          answered = record {
-            answer = a .staged .answered .answer ∙ sym (go e (shown p w));
-            long = a .staged .answered .long;
-            placed = a .staged .answered .placed;
+      let staged = a .0 .staged in (
+        record {
+          staged = record {
+            answered = record { answer = staged .answered .answer ∙ sym (go e (shown p w)); long = staged .answered .long; placed = staged .answered .placed };
+            beyond = staged .beyond;
           };
-          beyond = a .staged .beyond;
-        };
-        within = a .within;
-      }
+          within = a .0 .within;
+        },
+        untouched-alike (λ s none. ap (λ t. t || false) (defined-matches (definitionAt table r) e s) ∙ none) (a .1),
+      )
     where
       go : eqb (length (definitionAt table r .name)) 1 ≡ false → (q : Result (List ℕ))
           → (q then (λ s. cond (eqb (length (definitionAt table r .name)) 1) (passed s) (sized extra (applyDefinition (definitionAt table r)) s)))
@@ -109,6 +111,7 @@ module _ {table : List ℕ} {r : Record} (usable : Usable table r) where
 pub record DefinitionsLeft (table : List ℕ) (c : Cursor) (ds : List Definition) (extra : ℕ) (w₀ w : List ℕ) (p₀ p : Progress) : Type 0 where
   pub sound : EverySound (remaining table c)
   pub stages : Remaining w₀ w p₀ p extra (sizedDefinitions extra (inOrder ds)) (sizedDefinitions extra (remaining table c))
+  pub entries : EntriesLeft w₀ w p₀ p (map definedMatch (inOrder ds)) (map definedMatch (remaining table c))
 
 module _ (table : List ℕ) (c : Cursor) (r : Record) (next : remaining table c ≡ definitionAt table r ∷ remaining table (Behind r)) where
   sound-both : EverySound (remaining table c) → SoundDefinition (definitionAt table r) × EverySound (remaining table (Behind r))
@@ -120,13 +123,14 @@ module _ (table : List ℕ) (c : Cursor) (r : Record) (next : remaining table c 
 
   pub left-more :
       {ds : List Definition} {extra : ℕ} {w₀ w w′ : List ℕ} {p₀ p p′ : Progress} → DefinitionsLeft table c ds extra w₀ w p₀ p
-      → StagedWithin w w′ p p′ extra (sizedDefinition extra (definitionAt table r))
+      → StagedWithin w w′ p p′ extra (sizedDefinition extra (definitionAt table r)) × Untouched w w′ p p′ (definedMatch (definitionAt table r) ∷ [])
       → DefinitionsLeft table (Behind r) ds extra w₀ w′ p₀ p′
   unfolding sizedDefinitions
   left-more {extra = extra} left a =
       record {
         sound = sound-both (left .sound) .1;
-        stages = remaining-step (left .stages) (sizedDefinitions extra (remaining table (Behind r))) a (λ s. ap (λ l. sizedDefinitions extra l s) next);
+        stages = remaining-step (left .stages) (sizedDefinitions extra (remaining table (Behind r))) (a .0) (λ s. ap (λ l. sizedDefinitions extra l s) next);
+        entries = entries-more (definedMatch (definitionAt table r) ∷ []) _ (left .entries) (ap (map definedMatch) next) (a .1);
       }
 
 pub left-done : (table : List ℕ) (c : Cursor) (extra : ℕ) → remaining table c ≡ [] → (s : List ℕ) → sizedDefinitions extra (remaining table c) s ≡ passed s
@@ -144,7 +148,11 @@ left-none table ds extra {w} {p} e ready within =
     record {
       sound = subst EverySound all (order-sound table ds e);
       stages = subst (λ l. Remaining w w p p extra (sizedDefinitions extra (inOrder ds)) (sizedDefinitions extra l)) all (remaining-none (sizedDefinitions extra (inOrder ds)) ready within);
+      entries = subst (λ l. EntriesLeft w w p p (map definedMatch (inOrder ds)) (map definedMatch l)) all entries-none;
     }
+
+pub left-untouched : {table : List ℕ} {c : Cursor} {ds : List Definition} {extra : ℕ} {w₀ w : List ℕ} {p₀ p : Progress} → DefinitionsLeft table c ds extra w₀ w p₀ p → Untouched w₀ w p₀ p (map definedMatch ds)
+left-untouched {ds = ds} left = untouched-alike (λ s none. unmatched-rearranged (rearranged-in-order ds) s none) (entries-all (left .entries))
 
 -- ---- what is held
 module _ (extra : ℕ) where

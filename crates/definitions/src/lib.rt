@@ -1,4 +1,5 @@
-// The definitions of the table, applied outside of `\text{..}` blocks.
+// The definitions of the table, applied outside of `\text{..}` blocks. Where none of them matches, every byte stays as it is; a text with
+// blocks that are to be held out is rewritten all the same.
 use name_entry::Bounds;
 use table::Cursor;
 use table::Reading;
@@ -6,11 +7,13 @@ use table::Record;
 use text::Progress;
 ghost use mathlib.Core.Path.{_≡_};
 ghost use mathlib.Core.Bool.{false};
-ghost use mathlib.Core.List.{List};
+ghost use mathlib.Core.List.{List, [], _∷_, map};
 ghost use mathlib.Core.Option.{some};
 ghost use Rattle.spec.specs.Table.{Definition, definitions, inOrder};
 ghost use Rattle.spec.specs.Definitions.{applyDefinitionsOutsideText};
+ghost use Rattle.spec.specs.Matches.{definedMatch, textOpening};
 ghost use Rattle.text.specs.Stage.{Ready, Answered};
+ghost use Rattle.text.specs.Untouched.{Untouched};
 ghost use Rattle.name_entry.specs.Sized.{FitsWithBlocks, StagedWithin};
 ghost use Rattle.table.specs.Reading.{definitionAt};
 ghost use Rattle.table.specs.Sound.{refused};
@@ -29,6 +32,7 @@ fn apply_definition(
     requires { ⌜ FitsWithBlocks extra text ⌝ }
     requires { ⌜ Usable (now table) found ⌝ }
     ensures { λ r. ⌜ StagedWithin (now (work .entry)) (now (work .exit)) text r extra (sizedDefinition extra (definitionAt (now (table .entry)) found)) ⌝ }
+    ensures { λ r. ⌜ Untouched (now (work .entry)) (now (work .exit)) text r (definedMatch (definitionAt (now (table .entry)) found) ∷ []) ⌝ }
 {
     let start = found.name;
     let middle = found.latex;
@@ -52,6 +56,7 @@ fn apply_definitions(work: &mut [u8], text: Progress, extra: usize, table: &[u8]
     requires { ⌜ FitsWithBlocks extra text ⌝ }
     requires { ⌜ refused (definitions (now table)) ≡ false ⌝ }
     ensures { λ r. ⌜ ((ds : List Definition) → definitions (now (table .entry)) ≡ some ds → StagedWithin (now (work .entry)) (now (work .exit)) text r extra (sizedDefinitions extra (inOrder ds))) ⌝ }
+    ensures { λ r. ⌜ ((ds : List Definition) → definitions (now (table .entry)) ≡ some ds → Untouched (now (work .entry)) (now (work .exit)) text r (map definedMatch ds)) ⌝ }
 {
     let mut done = text;
     let mut cursor = Cursor::Start;
@@ -70,6 +75,7 @@ pub fn apply_definitions_outside_text(work: &mut [u8], text: Progress, table: &[
     requires { ⌜ UnmarkedProgress (now work) text ⌝ }
     requires { ⌜ refused (definitions (now table)) ≡ false ⌝ }
     ensures { λ r. ⌜ ((ds : List Definition) → definitions (now (table .entry)) ≡ some ds → Answered (now (work .entry)) (now (work .exit)) text r (applyDefinitionsOutsideText ds)) ⌝ }
+    ensures { λ r. ⌜ ((ds : List Definition) → definitions (now (table .entry)) ≡ some ds → Untouched (now (work .entry)) (now (work .exit)) text r (textOpening ∷ map definedMatch ds)) ⌝ }
 {
     let Progress::Text(from, n) = text else {
         return text;

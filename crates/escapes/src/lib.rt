@@ -4,15 +4,19 @@ mod braces;
 
 pub use braces::escape_set_braces;
 use text::Progress;
+ghost use mathlib.Core.List.{[], _∷_};
+ghost use Rattle.spec.specs.Symbols.{bytes, solidus, contains};
 ghost use Rattle.spec.specs.Result.{stage};
 ghost use Rattle.spec.specs.Pipeline.{markSolidus, unmarkSolidus};
 ghost use Rattle.spec.specs.Finish.{escapePercent};
 ghost use Rattle.text.specs.Stage.{Ready, Staged};
+ghost use Rattle.text.specs.Untouched.{Untouched};
 
 // `\/` becomes the mark, which no fraction sees.
 pub fn mark_solidus(work: &mut [u8], text: Progress) -> Progress
     requires { ⌜ Ready (now work) text ⌝ }
     ensures { λ r. ⌜ Staged (now (work .entry)) (now (work .exit)) text r (stage markSolidus) ⌝ }
+    ensures { λ r. ⌜ Untouched (now (work .entry)) (now (work .exit)) text r (contains (bytes "\\/") ∷ []) ⌝ }
 {
     pattern_rewriting::replace(work, text, b"\\/", b"\x01")
 }
@@ -21,6 +25,7 @@ pub fn mark_solidus(work: &mut [u8], text: Progress) -> Progress
 pub fn unmark_solidus(work: &mut [u8], text: Progress) -> Progress
     requires { ⌜ Ready (now work) text ⌝ }
     ensures { λ r. ⌜ Staged (now (work .entry)) (now (work .exit)) text r (stage unmarkSolidus) ⌝ }
+    ensures { λ r. ⌜ Untouched (now (work .entry)) (now (work .exit)) text r (contains (solidus ∷ []) ∷ []) ⌝ }
 {
     pattern_rewriting::replace(work, text, b"\x01", b"/")
 }
@@ -29,6 +34,7 @@ pub fn unmark_solidus(work: &mut [u8], text: Progress) -> Progress
 pub fn escape_percent(work: &mut [u8], text: Progress) -> Progress
     requires { ⌜ Ready (now work) text ⌝ }
     ensures { λ r. ⌜ Staged (now (work .entry)) (now (work .exit)) text r (stage escapePercent) ⌝ }
+    ensures { λ r. ⌜ Untouched (now (work .entry)) (now (work .exit)) text r (contains (bytes "%") ∷ []) ⌝ }
 {
     pattern_rewriting::replace(work, text, b"%", b"\\%")
 }

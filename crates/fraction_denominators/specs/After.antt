@@ -9,10 +9,10 @@ use lib.Dec.{eqb}
 use borrow.Author.Tests.{eq-eqb, ne-eqb}
 use lib.ListN.{length, take, drop, length-drop}
 use lib.Seq.{drop-drop}
-use Rattle.spec.specs.Symbols.{bytes, is, solidus, head, past, any, until, starts, ends, find}
+use Rattle.spec.specs.Symbols.{bytes, is, solidus, isSome, head, past, any, until, starts, ends, find}
 use Rattle.spec.specs.Closing.{findMatchingParen}
 use Rattle.spec.specs.Fractions.{wordAfter, rvertFrom, afterLvert, braces, bracket, power, arguments, grouped, shorterThan, afterBrackets, afterWord, passesSolidus, barred, findFractionPartAfter}
-use Rattle.spec.specs.Laws.Symbols.{starts-long, find-starts, isSome}
+use Rattle.spec.specs.Laws.Symbols.{starts-long, find-starts}
 use Rattle.text_search.specs.Search.{Finds, finds-at, finds-nothing}
 use Rattle.text_search.specs.declared.Found.{Found}
 use Rattle.text_search.specs.declared.Found.the-variants.{At, Nothing}

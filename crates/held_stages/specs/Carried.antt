@@ -2,10 +2,11 @@
 --     Carries           what the put-back asks: the blocks of h are held, and the text with them is well made and not too long
 --     carries-staged    so it is after stages that count the held blocks
 --     outside-answered  holding out, such stages, and putting back are the definitions' stage
+--     outside-untouched with no block and no match, all of them leave every byte as it was
 -- Assumes nothing.
 use mathlib.Core.Path.{_≡_, refl, sym, ap, ap₂, _∙_, subst}
 use mathlib.Core.Bool.{Bool, true, false, cond, _||_}
-use mathlib.Core.List.{List}
+use mathlib.Core.List.{List, [], _∷_, _++_}
 use mathlib.Core.Logic.{inl, inr, ⊎-elim}
 use Prim.Native.Nat.{ℕ, _+_, _-_, _≤_}
 use native.Mathlib.Omega.{arith}
@@ -13,18 +14,21 @@ use lib.Dec.{ltb}
 use lib.ListN.{length, length-append}
 use Rattle.text_search.specs.Half.{halfWork}
 use Rattle.spec.specs.Symbols.{textMark, romanMark}
-use Rattle.spec.specs.Held.{Held, withText, inFull, filled, heldStage, putBack}
+use Rattle.spec.specs.Held.{Held, withText, inFull, filled, heldStage, holdTexts, holdBoth, putBack}
 use Rattle.spec.specs.Result.{Result, passed, refused, _then_, mostSymbols}
-use Rattle.spec.specs.Laws.Held.{put-back-none}
+use Rattle.spec.specs.Matches.{Match, anyMatch, textOpening, romanOpening}
+use Rattle.spec.specs.Laws.Booleans.{or-neither}
+use Rattle.spec.specs.Laws.Held.{unheld, hold-texts-none, hold-both-none, put-back-none}
 use Rattle.text_symbols.specs.Parts.{part, length-part}
 use Rattle.text.specs.Writer.{Appended, Apart, appended-long}
 use Rattle.text.specs.Written.{appended-text}
 use Rattle.text.specs.Stage.{Ready, Placed, Answered, shown, placed-text, placed-fits, placed-regions}
+use Rattle.text.specs.Untouched.{Untouched, untouched-then, any-parts}
 use Rattle.text.specs.declared.Refusal.{Refusal}
 use Rattle.text.specs.declared.Refusal.the-variants.{LostBlock}
 use Rattle.text.specs.declared.Progress.{Progress}
 use Rattle.text.specs.declared.Progress.the-variants.{Text, Refused}
-use Rattle.held_laws.specs.Marks.{hasMark, count, order}
+use Rattle.held_laws.specs.Marks.{hasMark, count, order, concat}
 use Rattle.held_laws.specs.Noted.{noted}
 use Rattle.held_blocks.specs.Filing.{blocksAt}
 use Rattle.held_laws.specs.WellMade.{WellMade, lost, unheld-unmarked}
@@ -209,3 +213,34 @@ module _
         joined : (q : Result (List ℕ)) → (q then (λ t. putBack (withText h t))) ≡ (q then (λ t. passed (withText h t)) then putBack)
         joined (passed t) = refl
         joined (refused n) = refl
+
+-- ---- no block is held
+module _ {w w₁ : List ℕ} {r : OutsideText} (s : List ℕ) where
+  none-used : {h : Held} → h ≡ unheld s → HeldFrom w w₁ r h → r .used ≡ 0
+  unfolding concat
+  none-used e from = from .holds .used ∙ ap (λ (h : Held). length (concat (h .texts ++ h .romans))) e
+
+  pub texts-unused : HeldFrom w w₁ r (holdTexts s) → anyMatch (textOpening ∷ []) s ≡ false → r .used ≡ 0
+  texts-unused from none = none-used (hold-texts-none s (or-neither (textOpening s) false none .0)) from
+
+  pub both-unused : HeldFrom w w₁ r (holdBoth s) → anyMatch (textOpening ∷ (romanOpening ∷ [])) s ≡ false → r .used ≡ 0
+  both-unused from none =
+      let parts = or-neither (textOpening s) (anyMatch (romanOpening ∷ []) s) none in
+      let texts = hold-texts-none s (parts .0) in
+      none-used (hold-both-none s (ap (λ (h : Held). romanOpening (h .text)) texts ∙ or-neither (romanOpening s) false (parts .1) .0) ∙ texts) from
+
+pub outside-untouched :
+    {w w₁ w₂ w₃ : List ℕ} {from n at len used : ℕ} {p₀ p p₃ : Progress} (openings ms : List Match) → p₀ ≡ Text from n
+    → Untouched w w₁ (Text from n) (Text at len) openings
+    → Untouched w₁ w₂ (Text at len) p ms
+    → (anyMatch openings (part from n w) ≡ false → used ≡ 0)
+    → (used ≡ 0 → (w₃ ≡ w₂) × (p₃ ≡ p))
+    → Untouched w w₃ p₀ p₃ (openings ++ ms)
+outside-untouched {w} {w₃ = w₃} {from = from} {n} {p₃ = p₃} openings ms e held applied unused back =
+    subst (λ q. Untouched w w₃ q p₃ (openings ++ ms)) (sym e)
+    (record {
+      stays = λ none.
+          let same = untouched-then openings ms held applied .stays none in
+          let last = back (unused (any-parts openings ms (part from n w) none .0)) in
+          (last .0 ∙ same .0, last .1 ∙ same .1);
+    })

@@ -1,9 +1,14 @@
 // Blocks held out of a text, and put back: the two ends of the stages that spare block text.
 use text::Progress;
 use text::Refusal;
+ghost use mathlib.Core.Path.{_≡_};
+ghost use mathlib.Core.List.{[], _∷_};
+ghost use Rattle.spec.specs.Matches.{textOpening, romanOpening};
 ghost use Rattle.spec.specs.Held.{Held, withText, holdTexts, holdBoth, putBack};
 ghost use Rattle.text_symbols.specs.Parts.{part};
 ghost use Rattle.text.specs.Stage.{Answered};
+ghost use Rattle.text.specs.declared.Progress.the-variants.{Text};
+ghost use Rattle.text.specs.Untouched.{Untouched};
 ghost use Rattle.held_stages.specs.Outside.{Holdable, HeldFrom};
 ghost use Rattle.held_stages.specs.Carried.{Carries, Carried};
 
@@ -21,6 +26,7 @@ pub struct OutsideText {
 pub fn hold_texts(work: &mut [u8], from: usize, n: usize) -> OutsideText
     requires { ⌜ Holdable (now work) from n ⌝ }
     ensures { λ r. ⌜ HeldFrom (now (work .entry)) (now (work .exit)) r (holdTexts (part from n (now (work .entry)))) ⌝ }
+    ensures { λ r. ⌜ Untouched (now (work .entry)) (now (work .exit)) (Text from n) (Text (r .at) (r .len)) (textOpening ∷ []) ⌝ }
 {
     let end = from + n;
     if !text_search::contains(&work[from..end], b"\\text{") {
@@ -43,10 +49,11 @@ pub fn hold_texts(work: &mut [u8], from: usize, n: usize) -> OutsideText
     }
 }
 
-// Holds `\text{..}` blocks out, and then `\mathrm{..}` blocks.
+// Holds `\text{..}` blocks out, and then `\mathrm{..}` blocks. Where there is none, the text stays where it is.
 pub fn hold_both(work: &mut [u8], from: usize, n: usize) -> OutsideText
     requires { ⌜ Holdable (now work) from n ⌝ }
     ensures { λ r. ⌜ HeldFrom (now (work .entry)) (now (work .exit)) r (holdBoth (part from n (now (work .entry)))) ⌝ }
+    ensures { λ r. ⌜ Untouched (now (work .entry)) (now (work .exit)) (Text from n) (Text (r .at) (r .len)) (textOpening ∷ (romanOpening ∷ [])) ⌝ }
 {
     let first = hold_texts(work, from, n);
     let at = first.at;
@@ -80,6 +87,7 @@ pub fn hold_both(work: &mut [u8], from: usize, n: usize) -> OutsideText
 pub fn put_all_back(work: &mut [u8], text: Progress, texts: usize, used: usize) -> Progress
     requires { ⌜ Carried (now work) text texts used ⌝ }
     ensures { λ r. ⌜ ((h : Held) → Carries (now (work .entry)) text texts used h → Answered (now (work .entry)) (now (work .exit)) text r (λ t. putBack (withText h t))) ⌝ }
+    ensures { λ r. ⌜ (used ≡ 0 → (now (work .exit) ≡ now (work .entry)) × (r ≡ text)) ⌝ }
 {
     let Progress::Text(from, n) = text else {
         return text;

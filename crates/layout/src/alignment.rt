@@ -5,12 +5,14 @@ use text_symbols::Class;
 use text_symbols::Span;
 ghost use Prim.Native.Nat.{_≤_, _<_};
 ghost use mathlib.Core.Path.{_≡_};
+ghost use mathlib.Core.List.{[], _∷_};
 ghost use lib.ListN.{length};
 ghost use Rattle.spec.specs.Symbols.{bytes, ends};
 ghost use Rattle.spec.specs.Result.{stage, mostSymbols};
 ghost use Rattle.spec.specs.Finish.{hasAlignment, hasLineBreaks, convertAlignment};
 ghost use Rattle.text.specs.Writer.{Room, Appended, Regions};
 ghost use Rattle.text.specs.Stage.{Ready, Staged};
+ghost use Rattle.text.specs.Untouched.{Untouched};
 ghost use Rattle.layout.specs.Breaks.{breakAt, piece};
 ghost use Rattle.layout.specs.Lines.{Trimmed};
 ghost use Rattle.layout.specs.Aligned.{Lines, Aligned};
@@ -121,10 +123,11 @@ fn put_aligned(work: &mut [u8], from: usize, n: usize, to: usize) -> usize
     put_end(work, to, filled)
 }
 
-// Rows with `&` come into an `aligned` environment; without `&` only their breaks are doubled.
+// Rows with `&` come into an `aligned` environment; without `&` only their breaks are doubled. With neither, every byte stays as it is.
 pub fn convert_alignment(work: &mut [u8], text: Progress) -> Progress
     requires { ⌜ Ready (now work) text ⌝ }
     ensures { λ r. ⌜ Staged (now (work .entry)) (now (work .exit)) text r (stage convertAlignment) ⌝ }
+    ensures { λ r. ⌜ Untouched (now (work .entry)) (now (work .exit)) text r (hasAlignment ∷ (hasLineBreaks ∷ [])) ⌝ }
 {
     let Progress::Text(from, n) = text else {
         return text;

@@ -1,23 +1,28 @@
 -- The rule of an entry: a pattern between symbols that allow it is taken as a whole, and left as it is or written anew.
 --     allowed, left     what stands around the pattern, for each kind of entry
 --     bounded           the rule
---     literal-bounded, greek-bounded, ..    the rules of the definitions are such rules
+--     boundedAt, boundedMatch    where it writes the entry's text (`bounded-writes`), and elsewhere what it takes (`bounded-keeps`)
+--     literal-bounded, greek-bounded, ..    the rules of the definitions are such rules, and their matches such matches
 -- Assumes nothing.
 use mathlib.Core.Path.{_≡_, refl, sym, ap, _∙_}
-use mathlib.Core.Bool.{Bool, true, false, not, cond, _&&_, _||_, and-true}
+use mathlib.Core.Bool.{Bool, true, false, not, cond, _&&_, _||_, and-true, false≢true}
 use mathlib.Core.List.{List}
-use Prim.Native.Nat.{ℕ, _+_, _≤_, _<_}
+use Prim.Native.Nat.{ℕ, suc, pred, _+_, _≤_, _<_}
 use native.Mathlib.Omega.{arith}
-use lib.ListN.{length, getD, drop}
+use lib.Dec.{eqb}
+use lib.ListN.{length, getD, take, drop}
 use lib.Seq.{drop-drop}
-use Rattle.spec.specs.Symbols.{is, letter, alnum, wordly, head, starts}
+use Rattle.spec.specs.Symbols.{is, letter, alnum, wordly, head, starts, contains}
 use Rattle.spec.specs.Sweep.{Rule, kept, taken, sweep, replacing}
 use Rattle.spec.specs.Rows.{Row}
-use Rattle.spec.specs.Words.{greek, word, capital}
+use Rattle.spec.specs.Words.{embedded, greek, word, capital}
 use Rattle.spec.specs.Table.{Definition}
 use Rattle.spec.specs.Definitions.{defined}
-use Rattle.spec.specs.Laws.Symbols.{head-drop}
+use Rattle.spec.specs.Matches.{Match, somewhere, greekMatch, wordMatch, capitalMatch, definedMatch}
+use Rattle.spec.specs.Laws.Booleans.{and-left}
+use Rattle.spec.specs.Laws.Symbols.{head-drop, starts-take}
 use Rattle.spec.specs.Laws.Sweep.{Waits, sweep-same}
+use Rattle.spec.specs.Laws.Matches.{Keeps, AtPattern, somewhere-alike, somewhere-contains}
 use Rattle.name_entry.specs.declared.bounds.Bounds.{Bounds}
 use Rattle.name_entry.specs.declared.bounds.Bounds.the-variants.{Literal, Greek, Word, Capital, Defined}
 
@@ -44,6 +49,13 @@ spares b pattern before s = left b before (head (drop (length pattern) s))
 abbrev pub bounded : Bounds → List ℕ → List ℕ → Rule
 bounded b pattern fresh before s = cond (stands b pattern before s) (taken (length pattern) (cond (spares b pattern before s) pattern fresh)) (kept s)
 
+-- a name that is spared is no match
+abbrev pub boundedAt : Bounds → List ℕ → ℕ → List ℕ → Bool
+boundedAt b pattern before s = stands b pattern before s && not (spares b pattern before s)
+
+abbrev pub boundedMatch : Bounds → List ℕ → Match
+boundedMatch b pattern s = somewhere (boundedAt b pattern) 0 s
+
 -- ---- a place, as the code looks at it
 module _ (b : Bounds) (pattern : List ℕ) (before : ℕ) (s : List ℕ) where
   pub stands-not : starts pattern s ≡ false → false ≡ stands b pattern before s
@@ -64,7 +76,32 @@ pub record EntryTextsFit (pattern fresh : List ℕ) : Type 0 where
 pub bounded-waits : (b : Bounds) (pattern fresh : List ℕ) → Waits pattern (bounded b pattern fresh)
 bounded-waits b pattern fresh = record { copies = λ before s e. rw e }
 
--- ---- the definitions' rules
+pub bounded-at-pattern : (b : Bounds) (pattern : List ℕ) → AtPattern pattern (boundedAt b pattern)
+bounded-at-pattern b pattern = record { fails = λ before s e. rw e }
+
+pub bounded-keeps : (b : Bounds) {pattern fresh : List ℕ} → EntryTextsFit pattern fresh → Keeps (boundedAt b pattern) (bounded b pattern fresh)
+bounded-keeps b {pattern} {fresh} fair = record { writes = λ before s e. go before s (stands b pattern before s) (spares b pattern before s) refl e }
+  where
+    go :
+        (before : ℕ) (s : List ℕ) (t u : Bool) → stands b pattern before s ≡ t → t && not u ≡ false
+        → (let turn = cond t (taken (length pattern) (cond u pattern fresh)) (kept s) in turn .fresh ≡ take (suc (turn .more)) s)
+    go before s true true e f =
+        let positive = fair .positive in
+        let n : length pattern ≡ suc (pred (length pattern)) = omega arith in
+        sym (starts-take pattern s (and-left (starts pattern s) _ e)) ∙ ap (λ m. take m s) n
+    go before s true false e f = absurd (false≢true (sym f))
+    go before s false u e f = refl
+
+-- a match is no more than that: there the entry's own text is written
+pub bounded-writes : (b : Bounds) (pattern fresh : List ℕ) (before : ℕ) (s : List ℕ) → boundedAt b pattern before s ≡ true → bounded b pattern fresh before s ≡ taken (length pattern) fresh
+bounded-writes b pattern fresh before s e = go (stands b pattern before s) (spares b pattern before s) e
+  where
+    go : (t u : Bool) → t && not u ≡ true → cond t (taken (length pattern) (cond u pattern fresh)) (kept s) ≡ taken (length pattern) fresh
+    go true true e = absurd (false≢true e)
+    go true false e = refl
+    go false u e = absurd (false≢true e)
+
+-- ---- the definitions' rules and matches
 -- two rules that are the same at every place sweep alike
 sweep-alike : (r r′ : Rule) → ((before : ℕ) (s : List ℕ) → r before s ≡ r′ before s) → (s : List ℕ) → sweep r 0 0 s ≡ sweep r′ 0 0 s
 sweep-alike r r′ same s = sweep-same r r′ (length s) (λ before t h. same before t) s 0 0 (omega arith)
@@ -85,3 +122,20 @@ capital-bounded r s = refl
 
 pub defined-bounded : (d : Definition) (s : List ℕ) → sweep (bounded Defined (d .name) (d .latex)) 0 0 s ≡ sweep (defined d) 0 0 s
 defined-bounded d s = refl
+
+pub literal-matches : (pattern s : List ℕ) → boundedMatch Literal pattern s ≡ contains pattern s
+literal-matches pattern s =
+    somewhere-alike {test′ = λ before t. starts pattern t} (λ before t. and-true (starts pattern t && true) ∙ and-true (starts pattern t)) 0 s
+    ∙ somewhere-contains pattern 0 s
+
+pub greek-matches : (r : Row) (s : List ℕ) → boundedMatch Greek (r .typst) s ≡ greekMatch r s
+greek-matches r s = somewhere-alike (λ before t. ap (λ b. b && not (embedded (r .typst) before t)) (and-true (starts (r .typst) t))) 0 s
+
+pub word-matches : (r : Row) (s : List ℕ) → boundedMatch Word (r .typst) s ≡ wordMatch r s
+word-matches r s = refl
+
+pub capital-matches : (r : Row) (s : List ℕ) → boundedMatch Capital (r .typst) s ≡ capitalMatch r s
+capital-matches r s = refl
+
+pub defined-matches : (d : Definition) → eqb (length (d .name)) 1 ≡ false → (s : List ℕ) → boundedMatch Defined (d .name) s ≡ definedMatch d s
+defined-matches d e s = somewhere-alike (λ before t. and-true (stands Defined (d .name) before t)) 0 s ∙ (rw e)

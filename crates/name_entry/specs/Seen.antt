@@ -15,17 +15,16 @@ use lib.Dec.{eqb}
 use lib.ListN.{length, getD, set, drop, length-drop}
 use lib.Seq.{getD-set-same, getD-set-other}
 use borrow.Author.Tests.{eqb-true, eqb-false, eq-eqb, ne-eqb, not-true}
-use Rattle.spec.specs.Symbols.{any, starts, find, contains}
-use Rattle.spec.specs.Sweep.{Rule, sweep}
-use Rattle.spec.specs.Laws.Symbols.{drop-step, find-past, isSome, contains-find, find-absent}
-use Rattle.spec.specs.Laws.Sweep.{Waits}
+use Rattle.spec.specs.Symbols.{isSome, any, starts, find, contains}
+use Rattle.spec.specs.Matches.{somewhere}
+use Rattle.spec.specs.Laws.Symbols.{drop-step, find-past, contains-find, find-absent}
+use Rattle.spec.specs.Laws.Matches.{AtPattern}
 use Rattle.text_symbols.specs.Parts.{part, whole-part}
-use Rattle.text.specs.Stage.{Ready}
 use Rattle.text.specs.declared.Refusal.{Refusal}
 use Rattle.text.specs.declared.Progress.{Progress}
 use Rattle.text.specs.declared.Progress.the-variants.{Text, Refused}
 use Rattle.text.specs.Due.{Absent}
-use Rattle.name_entry.specs.Sized.{FitsWithBlocks, Applied, applied-same}
+use Rattle.text.specs.Untouched.{Unmatched, absent-unmatched}
 
 abbrev pub paired : ℕ → ℕ → ℕ
 paired a b = 2 * a + b
@@ -186,12 +185,10 @@ module _ (w pattern : List ℕ) {p : Progress} {from n : ℕ} (e : p ≡ Text fr
   pub nowhere-searched : {r : Bool} → r ≡ contains pattern (part from (from + n - from) w) → not r ≡ nowhere p w pattern
   nowhere-searched f = ap not (f ∙ ap (contains pattern) (whole-part from n w)) ∙ ap (λ q. nowhere q w pattern) (sym e)
 
-nowhere-absent : (w pattern : List ℕ) (p : Progress) → nowhere p w pattern ≡ true → Absent w pattern p
-nowhere-absent w pattern (Text at n) e = find-absent pattern (part at n w) (not-true (contains pattern (part at n w)) e)
-nowhere-absent w pattern (Refused k) e = tt
-
--- the entry's stage leaves every byte as it is
-pub applied-idle :
-    {w : List ℕ} {p : Progress} {pattern : List ℕ} {rule : Rule} (extra : ℕ) → Ready w p → FitsWithBlocks extra p → Waits pattern rule → nowhere p w pattern ≡ true
-    → Applied w w p p extra pattern (sweep rule 0 0)
-applied-idle {w} {p} {pattern} extra ready within waits e = applied-same p extra ready within waits (nowhere-absent w pattern p e)
+-- so there is no match of an entry with this pattern
+pub nowhere-unmatched : (w : List ℕ) (p : Progress) {pattern : List ℕ} {test : ℕ → List ℕ → Bool} → AtPattern pattern test → nowhere p w pattern ≡ true → Unmatched w p (somewhere test 0 ∷ [])
+nowhere-unmatched w p {pattern} at e = absent-unmatched at w p (absent p e)
+  where
+    absent : (p : Progress) → nowhere p w pattern ≡ true → Absent w pattern p
+    absent (Text from n) e = find-absent pattern (part from n w) (not-true (contains pattern (part from n w)) e)
+    absent (Refused k) e = tt

@@ -1,13 +1,12 @@
 -- Stages whose text counts as `extra` symbols longer than it is, since blocks are held out of it.
 --     sized             the stage: number 5 counts the held blocks
 --     FitsWithBlocks    with them, the text is not too long
---     Applied           what such a stage promises
---     Remaining         such stages one after another: what has been done, and what is left to do
+--     StagedWithin      what such a stage promises, or several of them
+--     Remaining         several, one after another: what has been done, and what is left to do
 -- Assumes nothing.
 use mathlib.Core.Path.{_≡_, refl, sym, ap, _∙_, subst}
-use mathlib.Core.Bool.{cond}
-use mathlib.Core.List.{List}
-use mathlib.Core.Option.{Option, none, some}
+use mathlib.Core.Bool.{Bool, false, cond}
+use mathlib.Core.List.{List, [], _∷_}
 use Prim.Native.Nat.{ℕ, _+_, _≤_, _<_}
 use native.Mathlib.Decide.{decLt}
 use native.Mathlib.Omega.{arith}
@@ -15,17 +14,19 @@ use lib.Dec.{ltb}
 use lib.ListN.{length, drop, length-take}
 use borrow.Author.Tests.{lt-ltb, le-ltb}
 use Rattle.text_search.specs.Half.{halfWork}
-use Rattle.spec.specs.Symbols.{find}
 use Rattle.spec.specs.Sweep.{Rule, sweep}
-use Rattle.spec.specs.Laws.Sweep.{Waits, sweep-absent}
+use Rattle.spec.specs.Matches.{somewhere}
+use Rattle.spec.specs.Laws.Booleans.{or-neither}
+use Rattle.spec.specs.Laws.Matches.{Keeps, sweep-unmatched}
 use Rattle.spec.specs.Result.{Result, passed, refused, _then_, mostSymbols, stage}
 use Rattle.text_symbols.specs.Parts.{part}
 use Rattle.text.specs.Writer.{Appended}
 use Rattle.text.specs.Written.{appended-text}
 use Rattle.text.specs.Stage.{Placed, Ready, Staged, shown}
-use Rattle.text.specs.Due.{Absent, Occurs, Told, Awaited, pattern-occurs, staged-answer, other-placed}
+use Rattle.text.specs.Due.{Awaited, pattern-occurs, staged-answer, other-placed}
+use Rattle.text.specs.Untouched.{Unmatched}
 use Rattle.text.specs.declared.Due.{Due}
-use Rattle.text.specs.declared.Due.the-variants.{Rewrite, Nothing}
+use Rattle.text.specs.declared.Due.the-variants.{Rewrite}
 use Rattle.text.specs.declared.Refusal.the-variants.{Overgrown}
 use Rattle.text.specs.declared.Progress.{Progress}
 use Rattle.text.specs.declared.Progress.the-variants.{Text, Refused}
@@ -40,11 +41,9 @@ FitsWithBlocks extra (Refused k) = Unit {0}
 abbrev pub judgedWithin : ℕ → ℕ → ℕ → Progress
 judgedWithin extra to count = cond (ltb mostSymbols (count + extra)) (Refused Overgrown) (Text to count)
 
--- a stage that waits for the pattern: where that is nowhere, buffer and progress are as they were
-pub record Applied (w w′ : List ℕ) (p p′ : Progress) (extra : ℕ) (pattern : List ℕ) (f : List ℕ → List ℕ) : Type 0 where
-  pub staged : Staged w w′ p p′ (sized extra f)
+pub record StagedWithin (w w′ : List ℕ) (p p′ : Progress) (extra : ℕ) (f : List ℕ → Result (List ℕ)) : Type 0 where
+  pub staged : Staged w w′ p p′ f
   pub within : FitsWithBlocks extra p′
-  pub without-pattern : (at n : ℕ) → p ≡ Text at n → find pattern (part at n w) ≡ none → (w′ ≡ w) × (p′ ≡ p)
 
 -- a stage by another definition
 pub staged-alike :
@@ -69,58 +68,38 @@ pub within-none : {w : List ℕ} (p : Progress) → Ready w p → FitsWithBlocks
 within-none (Text at n) ready = let h = ready .placed .1 in omega arith
 within-none (Refused k) ready = tt
 
--- ---- there is nothing to do: the text has been refused before, or the pattern is nowhere in it
-pub applied-same :
-    {w : List ℕ} (p : Progress) {pattern : List ℕ} {rule : Rule} (extra : ℕ) → Ready w p → FitsWithBlocks extra p → Waits pattern rule → Absent w pattern p
-    → Applied w w p p extra pattern (sweep rule 0 0)
-applied-same {w} (Text from n) {rule = rule} extra ready within waits absent =
+-- ---- there is nothing to do: the text has been refused before, or it holds no match
+pub unmatched-within :
+    {w : List ℕ} (p : Progress) {test : ℕ → List ℕ → Bool} {rule : Rule} (extra : ℕ) → Ready w p → FitsWithBlocks extra p → Keeps test rule
+    → Unmatched w p (somewhere test 0 ∷ [])
+    → StagedWithin w w p p extra (sized extra (sweep rule 0 0))
+unmatched-within {w} (Text from n) {test} extra ready within keeps none =
     let l = length-take n (drop from w) in
     let short : length (part from n w) + extra ≤ mostSymbols = omega arith in
+    let same = sweep-unmatched keeps (part from n w) 0 (or-neither (somewhere test 0 (part from n w)) false none .0) in
     record {
       staged = record {
-        answered = record { answer = sym (rw (sweep-absent waits (part from n w) 0 absent, le-ltb mostSymbols (length (part from n w) + extra) short)); long = refl; placed = ready .placed };
+        answered = record { answer = sym (rw (same, le-ltb mostSymbols (length (part from n w) + extra) short)); long = refl; placed = ready .placed };
         beyond = refl;
       };
       within = within;
-      without-pattern = λ at n same absent. (refl, refl);
     }
-applied-same (Refused k) extra ready within waits absent =
-    record {
-      staged = record { answered = record { answer = refl; long = refl; placed = tt }; beyond = refl };
-      within = tt;
-      without-pattern = λ at n same absent. (refl, refl);
-    }
+unmatched-within (Refused k) extra ready within keeps none =
+    record { staged = record { answered = record { answer = refl; long = refl; placed = tt }; beyond = refl }; within = tt }
 
 module _ {w : List ℕ} {p : Progress} {pattern : List ℕ} {r : Due} (extra : ℕ) (awaited : Awaited w p pattern r) (within : FitsWithBlocks extra p) where
-  pub applied-absent : {rule : Rule} → r ≡ Nothing → Waits pattern rule → Applied w w p p extra pattern (sweep rule 0 0)
-  applied-absent e waits = applied-same p extra (awaited .ready) within waits (subst (Told w p pattern) e (awaited .told))
-
   -- ---- the text has been rewritten to the other region
   module _ {from n to i : ℕ} (e : r ≡ Rewrite from n to i) where
     pub within-text : n + extra ≤ mostSymbols
     within-text = subst (FitsWithBlocks extra) (pattern-occurs awaited e .text) within
 
-    pub applied-written :
+    pub written-within :
         {w′ : List ℕ} {count : ℕ} {p′ : Progress} (f : List ℕ → List ℕ) → Appended w w′ to mostSymbols 0 count (f (part from n w)) → p′ ≡ judgedWithin extra to count
-        → Applied w w′ p p′ extra pattern f
-    applied-written {w′} {count} {p′} f a j =
+        → StagedWithin w w′ p p′ extra (sized extra f)
+    written-within {w′} {count} {p′} f a j =
         let right = subst (λ q. (shown q w′ ≡ sized extra f (part from n w)) × Placed q × FitsWithBlocks extra q) (sym j) (judged-right (decLt mostSymbols (count + extra))) in
-        record {
-          staged = staged-answer awaited e (sized extra f) a (right .0) (right .1);
-          within = right .2;
-          without-pattern = λ at m same absent. (let z : _≡_ {A = ℕ} 0 1 = cc (absent-at at m same absent) in absurd (omega arith));
-        }
+        record { staged = staged-answer awaited e (sized extra f) a (right .0) (right .1); within = right .2 }
       where
-        o : Occurs w p pattern from n to i
-        o = pattern-occurs awaited e
-
-        place : Progress → List ℕ
-        place (Text at m) = part at m w
-        place (Refused k) = part 0 0 w
-
-        absent-at : (at m : ℕ) → p ≡ Text at m → find pattern (part at m w) ≡ none → _≡_ {A = Option (List ℕ)} none (some (drop i (part from n w)))
-        absent-at at m same absent = sym absent ∙ ap (find pattern) (ap place (sym same ∙ o .text)) ∙ o .found
-
         judged-right : Dec (mostSymbols < count + extra) → (let q = judgedWithin extra to count in (shown q w′ ≡ sized extra f (part from n w)) × Placed q × FitsWithBlocks extra q)
         judged-right (yes h) =
             let c = a .counted in
@@ -128,25 +107,20 @@ module _ {w : List ℕ} {p : Progress} {pattern : List ℕ} {r : Due} (extra : �
         judged-right (no h) =
             let c = a .counted in let l : count + extra ≤ mostSymbols = omega arith in
             rw (le-ltb mostSymbols (count + extra) l, le-ltb mostSymbols (length (f (part from n w)) + extra) (omega arith))
-            (ap passed (appended-text a (o .regions .region) (omega arith)), (other-placed awaited e, omega arith), l)
+            (ap passed (appended-text a (pattern-occurs awaited e .regions .region) (omega arith)), (other-placed awaited e, omega arith), l)
 
 -- the same stage by another definition
-pub applied-alike :
-    {w w′ : List ℕ} {p p′ : Progress} {extra : ℕ} {pattern : List ℕ} {f : List ℕ → List ℕ} (g : List ℕ → List ℕ) → ((s : List ℕ) → f s ≡ g s)
-    → Applied w w′ p p′ extra pattern f
-    → Applied w w′ p p′ extra pattern g
-applied-alike {extra = extra} {f = f} g same a =
+pub within-alike :
+    {w w′ : List ℕ} {p p′ : Progress} {extra : ℕ} {f : List ℕ → List ℕ} (g : List ℕ → List ℕ) → ((s : List ℕ) → f s ≡ g s)
+    → StagedWithin w w′ p p′ extra (sized extra f)
+    → StagedWithin w w′ p p′ extra (sized extra g)
+within-alike {extra = extra} g same a =
     record {
       staged = staged-alike (sized extra g) (λ s. ap (λ t. cond (ltb mostSymbols (length t + extra)) (refused 5) (passed t)) (same s)) (a .staged);
       within = a .within;
-      without-pattern = a .without-pattern;
     }
 
 -- ---- several such stages
-pub record StagedWithin (w w′ : List ℕ) (p p′ : Progress) (extra : ℕ) (f : List ℕ → Result (List ℕ)) : Type 0 where
-  pub staged : Staged w w′ p p′ f
-  pub within : FitsWithBlocks extra p′
-
 -- one after another: f is all that is to be done, and g what is left of it
 pub record Remaining (w₀ w : List ℕ) (p₀ p : Progress) (extra : ℕ) (f g : List ℕ → Result (List ℕ)) : Type 0 where
   pub rest : (shown p w then g) ≡ (shown p₀ w₀ then f)
@@ -183,12 +157,6 @@ module _ {w₀ w : List ℕ} {p₀ p : Progress} {extra : ℕ} {f g : List ℕ �
       by : (r : Result (List ℕ)) → (r then g) ≡ (r then (λ s. h s then next))
       by (passed s) = step s
       by (refused k) = refl
-
-  pub remaining-more :
-      {w′ : List ℕ} {p′ : Progress} {pattern : List ℕ} {h : List ℕ → List ℕ} (next : List ℕ → Result (List ℕ))
-      → Applied w w′ p p′ extra pattern h → ((s : List ℕ) → g s ≡ (sized extra h s then next))
-      → Remaining w₀ w′ p₀ p′ extra f next
-  remaining-more next a step = remaining-step next (record { staged = a .staged; within = a .within }) step
 
   pub remaining-all : ((s : List ℕ) → g s ≡ passed s) → StagedWithin w₀ w p₀ p extra f
   remaining-all done =

@@ -1,5 +1,5 @@
 // Entries: a pattern, what is written for it, and what may stand around it. One loop applies an entry of any kind, and an
-// entry whose pattern is nowhere costs a search and no copy.
+// entry that matches nowhere costs a search and no copy.
 //
 // While blocks are held out of a text, it counts as longer than it is: `extra` is by how much.
 mod bounds;
@@ -11,19 +11,22 @@ pub use presence::mark;
 use text::Due;
 use text::Progress;
 use text::Refusal;
+use text_search::Found;
 ghost use mathlib.Core.Path.{_≡_};
 ghost use mathlib.Core.Bool.{cond};
-ghost use mathlib.Core.List.{_∷_};
-ghost use Prim.Native.Nat.{_≤_};
+ghost use mathlib.Core.List.{[], _∷_};
+ghost use Prim.Native.Nat.{_≤_, _<_};
 ghost use lib.ListN.{length, getD, drop};
 ghost use Rattle.spec.specs.Result.{mostSymbols};
 ghost use Rattle.text_search.specs.Half.{halfWork};
 ghost use Rattle.spec.specs.Sweep.{sweep};
+ghost use Rattle.spec.specs.Laws.Matches.{somewhereFrom};
 ghost use Rattle.text_symbols.specs.Parts.{part};
 ghost use Rattle.text.specs.Writer.{Room, Appended, Regions};
 ghost use Rattle.text.specs.Stage.{Ready};
-ghost use Rattle.name_entry.specs.Bounded.{EntryTextsFit, stands as standing, spares, bounded};
-ghost use Rattle.name_entry.specs.Sized.{FitsWithBlocks, judgedWithin, Applied};
+ghost use Rattle.text.specs.Untouched.{Untouched};
+ghost use Rattle.name_entry.specs.Bounded.{EntryTextsFit, stands as standing, spares, bounded, boundedAt, boundedMatch};
+ghost use Rattle.name_entry.specs.Sized.{sized, FitsWithBlocks, judgedWithin, StagedWithin};
 
 // Whether the pattern stands at place i, and what is around it allows it to be taken.
 fn stands(s: &[u8], i: usize, bounds: Bounds, pattern: &[u8]) -> bool
@@ -46,6 +49,31 @@ fn is_spared(s: &[u8], i: usize, bounds: Bounds, pattern: &[u8]) -> bool
     bounds::is_left(bounds, text_search::symbol_before(s, i), behind)
 }
 
+// Whether there is a match at place i: the pattern is taken, and not left as it is.
+fn is_match(s: &[u8], i: usize, bounds: Bounds, pattern: &[u8]) -> bool
+    requires { ⌜ (i ≤ length (now s)) × ((length (now s) ≤ halfWork) × (length (now pattern) ≤ 1024)) ⌝ }
+    ensures { λ r. ⌜ r ≡ boundedAt bounds (now (pattern .entry)) (getD (0 ∷ now (s .entry)) i 0) (drop i (now (s .entry))) ⌝ }
+{
+    stands(s, i, bounds, pattern) & !is_spared(s, i, bounds, pattern)
+}
+
+// Whether there is a match from `start` on. Behind it, only where the pattern stands is more looked at.
+fn is_matched(s: &[u8], start: usize, bounds: Bounds, pattern: &[u8]) -> bool
+    requires { ⌜ (start < length (now s)) × ((length (now s) ≤ halfWork) × (length (now pattern) ≤ 1024)) ⌝ }
+    ensures { λ r. ⌜ r ≡ somewhereFrom (boundedAt bounds (now (pattern .entry))) (now (s .entry)) start ⌝ }
+{
+    let mut i = start;
+    loop {
+        if is_match(s, i, bounds, pattern) {
+            return true;
+        }
+        let Found::At(at) = text_search::find_from(s, i + 1, pattern) else {
+            return false;
+        };
+        i = at;
+    }
+}
+
 // Appends the pattern where it is spared, and else what is written for it.
 fn put_entry(
     work: &mut [u8],
@@ -65,7 +93,8 @@ fn put_entry(
     text::put_all(work, to, text::CAP, count, fresh)
 }
 
-// Writes the `n` symbols at `from` to `to`, by the entry. The result is the finished text's length.
+// Writes the `n` symbols at `from` to `to`, by the entry: what stands before its pattern is copied at once. The result is the finished
+// text's length.
 fn rewrite(
     work: &mut [u8],
     from: usize,
@@ -86,6 +115,10 @@ fn rewrite(
         if !stands(&work[from..end], i, bounds, pattern) {
             count = text::copy_one(work, from + i, to, text::CAP, count);
             i += 1;
+            let next = from + i;
+            let gap = text_search::gap(&work[next..end], pattern);
+            count = text::copy(work, next, gap, to, text::CAP, count);
+            i += gap;
             continue;
         }
         let spared = is_spared(&work[from..end], i, bounds, pattern);
@@ -106,7 +139,7 @@ fn finished(to: usize, count: usize, extra: usize) -> Progress
     Progress::Text(to, count)
 }
 
-// The stage that applies an entry. Where its pattern does not occur, every byte stays as it is.
+// The stage that applies an entry. Where it matches nowhere, every byte stays as it is.
 pub fn apply(
     work: &mut [u8],
     text: Progress,
@@ -118,11 +151,16 @@ pub fn apply(
     requires { ⌜ Ready (now work) text ⌝ }
     requires { ⌜ FitsWithBlocks extra text ⌝ }
     requires { ⌜ EntryTextsFit (now pattern) (now fresh) ⌝ }
-    ensures { λ r. ⌜ Applied (now (work .entry)) (now (work .exit)) text r extra (now (pattern .entry)) (sweep (bounded bounds (now (pattern .entry)) (now (fresh .entry))) 0 0) ⌝ }
+    ensures { λ r. ⌜ StagedWithin (now (work .entry)) (now (work .exit)) text r extra (sized extra (sweep (bounded bounds (now (pattern .entry)) (now (fresh .entry))) 0 0)) ⌝ }
+    ensures { λ r. ⌜ Untouched (now (work .entry)) (now (work .exit)) text r (boundedMatch bounds (now (pattern .entry)) ∷ []) ⌝ }
 {
-    let Due::Rewrite(from, n, to, _) = text::due_for(work, text, pattern) else {
+    let Due::Rewrite(from, n, to, first) = text::due_for(work, text, pattern) else {
         return text;
     };
+    let end = from + n;
+    if !is_matched(&work[from..end], first, bounds, pattern) {
+        return text;
+    }
     let count = rewrite(work, from, n, to, bounds, pattern, fresh);
     finished(to, count, extra)
 }

@@ -1,5 +1,5 @@
 -- Tables of rules: the rule of a row for each kind of table, and the rows one after another.
---     rowRule, boundsOf     the definitions' rule of a row, and the code's
+--     rowRule, rowMatch, boundsOf     the definitions' rule of a row and its match, and the code's
 --     sizedRows             the rows of a table in order, each a stage, while blocks are held or not
 -- Assumes nothing.
 use mathlib.Core.Path.{_≡_, refl, sym, ap, _∙_, subst, subst₂}
@@ -13,13 +13,29 @@ use Rattle.spec.specs.Sweep.{Rule, sweep, replacing, replace}
 use Rattle.spec.specs.Result.{Result, passed, refused, _then_, stage}
 use Rattle.spec.specs.Rows.{Row}
 use Rattle.spec.specs.Words.{greek, word, capital, literal, wordOrLiteral, replaceRows, capitals}
+use Rattle.spec.specs.Matches.{Match, literalMatch, greekMatch, wordMatch, wordOrLiteralMatch, capitalMatch}
 use Rattle.text_symbols.specs.Parts.{length-part}
 use Rattle.name_entry.specs.declared.bounds.Bounds.{Bounds}
 use Rattle.name_entry.specs.declared.bounds.Bounds.the-variants as around
 use Rattle.text.specs.Stage.{Ready}
-use Rattle.name_entry.specs.Bounded.{EntryTextsFit, bounded, bounded-waits, literal-bounded, greek-bounded, word-bounded, capital-bounded}
-use Rattle.name_entry.specs.Sized.{sized, sized-none, FitsWithBlocks, Applied, applied-alike}
-use Rattle.name_entry.specs.Seen.{nowhere, applied-idle}
+use Rattle.text.specs.Untouched.{Untouched, untouched-same, untouched-alike}
+use Rattle.name_entry.specs.Bounded.{
+  EntryTextsFit,
+  bounded,
+  boundedMatch,
+  bounded-at-pattern,
+  bounded-keeps,
+  literal-bounded,
+  greek-bounded,
+  word-bounded,
+  capital-bounded,
+  literal-matches,
+  greek-matches,
+  word-matches,
+  capital-matches,
+}
+use Rattle.name_entry.specs.Sized.{sized, sized-none, FitsWithBlocks, StagedWithin, unmatched-within, within-alike}
+use Rattle.name_entry.specs.Seen.{nowhere, nowhere-unmatched}
 use Rattle.text.specs.declared.Progress.{Progress}
 use Rattle.name_greek.specs.Rows.{rowAt, rowsFrom, fairRow, row-within, typst-some, typst-fits, latex-fits, row-next, rows-done}
 use Rattle.name_tables.specs.declared.NameKind.{NameKind}
@@ -30,6 +46,12 @@ rowRule Literal r = replacing (r .typst) (r .latex)
 rowRule Greek r = greek r
 rowRule Word r = wordOrLiteral r
 rowRule Capital r = capital r
+
+abbrev pub rowMatch : NameKind → Row → Match
+rowMatch Literal r = literalMatch r
+rowMatch Greek r = greekMatch r
+rowMatch Word r = wordOrLiteralMatch r
+rowMatch Capital r = capitalMatch r
 
 abbrev pub boundsOf : NameKind → List ℕ → Bounds
 boundsOf Literal typst = around.Literal
@@ -47,6 +69,16 @@ rule-bounded Word r s = go (literal (r .typst))
     go true = literal-bounded (r .typst) (r .latex) s
     go false = word-bounded r s
 
+match-bounded : (kind : NameKind) (r : Row) (s : List ℕ) → boundedMatch (boundsOf kind (r .typst)) (r .typst) s ≡ rowMatch kind r s
+match-bounded Literal r s = literal-matches (r .typst) s
+match-bounded Greek r s = greek-matches r s
+match-bounded Capital r s = capital-matches r s
+match-bounded Word r s = go (literal (r .typst))
+  where
+    go : (t : Bool) → boundedMatch (cond t around.Literal around.Word) (r .typst) s ≡ cond {A = Match} t (literalMatch r) (wordMatch r) s
+    go true = literal-matches (r .typst) s
+    go false = word-matches r s
+
 -- a row of the table can be applied
 pub row-fair : (table : List ℕ) (k : ℕ) → fairRow table k ≡ true → EntryTextsFit (rowAt table k .typst) (rowAt table k .latex)
 row-fair table k e =
@@ -55,24 +87,34 @@ row-fair table k e =
     let l = length-part (k * 36 + 16 + 1) (getD table (k * 36 + 16) 0) table (omega arith) in
     record { positive = omega arith; short = omega arith; few = omega arith }
 
+-- what is promised of a row
+abbrev pub RowApplied : List ℕ → List ℕ → Progress → Progress → ℕ → NameKind → Row → Type 0
+RowApplied w w′ p p′ extra kind row = StagedWithin w w′ p p′ extra (sized extra (sweep (rowRule kind row) 0 0)) × Untouched w w′ p p′ (rowMatch kind row ∷ [])
+
 -- a row, as the code applies it
 pub row-applied :
     (kind : NameKind) (row : Row) {w w′ : List ℕ} {p p′ : Progress} {extra : ℕ} {b : Bounds} {typst latex : List ℕ}
     → typst ≡ row .typst → latex ≡ row .latex → b ≡ boundsOf kind typst
-    → Applied w w′ p p′ extra typst (sweep (bounded b typst latex) 0 0)
-    → Applied w w′ p p′ extra (row .typst) (sweep (rowRule kind row) 0 0)
+    → StagedWithin w w′ p p′ extra (sized extra (sweep (bounded b typst latex) 0 0)) × Untouched w w′ p p′ (boundedMatch b typst ∷ [])
+    → RowApplied w w′ p p′ extra kind row
 row-applied kind row {w} {w′} {p} {p′} {extra} {b} {typst} {latex} e f g a =
-    applied-alike (sweep (rowRule kind row) 0 0) (rule-bounded kind row)
-    (subst₂ (λ t l. Applied w w′ p p′ extra t (sweep (bounded (boundsOf kind t) t l) 0 0)) e f
-    (subst (λ c. Applied w w′ p p′ extra typst (sweep (bounded c typst latex) 0 0)) g a))
+    let by-row =
+    subst₂ (λ t l. StagedWithin w w′ p p′ extra (sized extra (sweep (bounded (boundsOf kind t) t l) 0 0)) × Untouched w w′ p p′ (boundedMatch (boundsOf kind t) t ∷ [])) e f
+    (subst (λ c. StagedWithin w w′ p p′ extra (sized extra (sweep (bounded c typst latex) 0 0)) × Untouched w w′ p p′ (boundedMatch c typst ∷ [])) g a)
+    in (
+      within-alike (sweep (rowRule kind row) 0 0) (rule-bounded kind row) (by-row .0),
+      untouched-alike (λ s none. ap (λ t. t || false) (match-bounded kind row s) ∙ none) (by-row .1),
+    )
 
 -- a row that is passed over, since its name is nowhere
 pub row-nowhere :
-    (kind : NameKind) (row : Row) {w : List ℕ} {p : Progress} (extra : ℕ) → Ready w p → FitsWithBlocks extra p → nowhere p w (row .typst) ≡ true
-    → Applied w w p p extra (row .typst) (sweep (rowRule kind row) 0 0)
-row-nowhere kind row extra ready within e =
-    applied-alike (sweep (rowRule kind row) 0 0) (rule-bounded kind row)
-    (applied-idle extra ready within (bounded-waits (boundsOf kind (row .typst)) (row .typst) (row .latex)) e)
+    (kind : NameKind) (row : Row) {w : List ℕ} {p : Progress} (extra : ℕ) → EntryTextsFit (row .typst) (row .latex) → Ready w p → FitsWithBlocks extra p
+    → nowhere p w (row .typst) ≡ true
+    → RowApplied w w p p extra kind row
+row-nowhere kind row {w} {p} extra fair ready within e =
+    let b = boundsOf kind (row .typst) in
+    row-applied kind row refl refl refl
+    (unmatched-within p extra ready within (bounded-keeps b fair) (nowhere-unmatched w p (bounded-at-pattern b (row .typst)) e), untouched-same)
 
 -- ---- the rows of a table
 unfoldable pub sizedRows : ℕ → (Row → Rule) → List Row → List ℕ → Result (List ℕ)

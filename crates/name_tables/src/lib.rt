@@ -5,13 +5,15 @@ use name_greek::TYPST;
 use text::Progress;
 ghost use mathlib.Core.Path.{_≡_};
 ghost use mathlib.Core.Bool.{true};
+ghost use mathlib.Core.List.{[], _∷_, map};
 ghost use Rattle.spec.specs.Sweep.{sweep};
 ghost use Rattle.spec.specs.Words.{literal};
 ghost use Rattle.text.specs.Stage.{Ready};
+ghost use Rattle.text.specs.Untouched.{Untouched};
 ghost use Rattle.name_entry.specs.Seen.{SeenIn, nowhere};
-ghost use Rattle.name_entry.specs.Sized.{FitsWithBlocks, Applied, StagedWithin};
+ghost use Rattle.name_entry.specs.Sized.{sized, FitsWithBlocks, StagedWithin};
 ghost use Rattle.name_greek.specs.Rows.{rowAt, fairRow, rowsOf, fairTable};
-ghost use Rattle.name_tables.specs.Kinds.{boundsOf, rowRule, sizedRows};
+ghost use Rattle.name_tables.specs.Kinds.{boundsOf, rowRule, rowMatch, sizedRows};
 
 // What may stand around the names of a table.
 pub enum NameKind {
@@ -68,7 +70,7 @@ fn is_row_nowhere(work: &[u8], text: Progress, seen: &[u8; 768], table: &[u8], k
     name_entry::is_nowhere(work, text, seen, &table[typst..end])
 }
 
-// Applies row k.
+// Applies row k. Where it matches nowhere, every byte stays as it is.
 fn apply_row(
     work: &mut [u8],
     text: Progress,
@@ -80,7 +82,8 @@ fn apply_row(
     requires { ⌜ Ready (now work) text ⌝ }
     requires { ⌜ FitsWithBlocks extra text ⌝ }
     requires { ⌜ fairRow (now table) k ≡ true ⌝ }
-    ensures { λ r. ⌜ Applied (now (work .entry)) (now (work .exit)) text r extra (rowAt (now (table .entry)) k .typst) (sweep (rowRule kind (rowAt (now (table .entry)) k)) 0 0) ⌝ }
+    ensures { λ r. ⌜ StagedWithin (now (work .entry)) (now (work .exit)) text r extra (sized extra (sweep (rowRule kind (rowAt (now (table .entry)) k)) 0 0)) ⌝ }
+    ensures { λ r. ⌜ Untouched (now (work .entry)) (now (work .exit)) text r (rowMatch kind (rowAt (now (table .entry)) k) ∷ []) ⌝ }
 {
     let at = k * ROW;
     let middle = at + TYPST;
@@ -100,6 +103,7 @@ fn apply_row(
 }
 
 // Applies a table's rows in order, each a stage of its own. A row whose name is nowhere is passed over, so the pairs that occur stay known.
+// Where none of them matches, every byte stays as it is.
 pub fn apply_rows(
     work: &mut [u8],
     text: Progress,
@@ -111,6 +115,7 @@ pub fn apply_rows(
     requires { ⌜ FitsWithBlocks extra text ⌝ }
     requires { ⌜ fairTable (now table) ≡ true ⌝ }
     ensures { λ r. ⌜ StagedWithin (now (work .entry)) (now (work .exit)) text r extra (sizedRows extra (rowRule kind) (rowsOf (now (table .entry)))) ⌝ }
+    ensures { λ r. ⌜ Untouched (now (work .entry)) (now (work .exit)) text r (map (rowMatch kind) (rowsOf (now (table .entry)))) ⌝ }
 {
     let rows = table.len() / ROW;
     let mut done = text;

@@ -1,17 +1,22 @@
-// Functions, operators, Greek names and words: the tables of the Rust's convert_syntax, applied row by row.
+// Functions, operators, Greek names and words: the tables of the Rust's convert_syntax, applied row by row. Where no row matches, every
+// byte stays as it is; a text with blocks that are to be held out is rewritten all the same.
 mod tables;
 
 use name_tables::NameKind;
 use text::Progress;
-ghost use Rattle.spec.specs.Rows.{functionMappings, operatorReplacements};
+ghost use mathlib.Core.List.{_∷_, _++_, map};
+ghost use Rattle.spec.specs.Rows.{functionMappings, operatorReplacements, greekLetters, wordMappings, greekCapitals};
 ghost use Rattle.spec.specs.Words.{replaceRows, convertWords, convertGreekCapitals};
+ghost use Rattle.spec.specs.Matches.{literalMatch, greekMatch, wordOrLiteralMatch, capitalMatch, textOpening, romanOpening};
 ghost use Rattle.text.specs.Stage.{Ready, Answered, Staged};
+ghost use Rattle.text.specs.Untouched.{Untouched};
 ghost use Rattle.held_stages.specs.Outside.{UnmarkedProgress};
 
 // `sin(`, `cos(` and so on get a backslash, wherever they stand.
 pub fn convert_functions(work: &mut [u8], text: Progress) -> Progress
     requires { ⌜ Ready (now work) text ⌝ }
     ensures { λ r. ⌜ Staged (now (work .entry)) (now (work .exit)) text r (replaceRows functionMappings) ⌝ }
+    ensures { λ r. ⌜ Untouched (now (work .entry)) (now (work .exit)) text r (map literalMatch functionMappings) ⌝ }
 {
     name_tables::apply_rows(work, text, 0, NameKind::Literal, &tables::FUNCTIONS)
 }
@@ -20,6 +25,7 @@ pub fn convert_functions(work: &mut [u8], text: Progress) -> Progress
 pub fn convert_operators(work: &mut [u8], text: Progress) -> Progress
     requires { ⌜ Ready (now work) text ⌝ }
     ensures { λ r. ⌜ Staged (now (work .entry)) (now (work .exit)) text r (replaceRows operatorReplacements) ⌝ }
+    ensures { λ r. ⌜ Untouched (now (work .entry)) (now (work .exit)) text r (map literalMatch operatorReplacements) ⌝ }
 {
     name_tables::apply_rows(work, text, 0, NameKind::Literal, &tables::OPERATORS)
 }
@@ -29,6 +35,7 @@ pub fn convert_words(work: &mut [u8], text: Progress) -> Progress
     requires { ⌜ Ready (now work) text ⌝ }
     requires { ⌜ UnmarkedProgress (now work) text ⌝ }
     ensures { λ r. ⌜ Answered (now (work .entry)) (now (work .exit)) text r convertWords ⌝ }
+    ensures { λ r. ⌜ Untouched (now (work .entry)) (now (work .exit)) text r (textOpening ∷ (romanOpening ∷ (map greekMatch greekLetters ++ map wordOrLiteralMatch wordMappings))) ⌝ }
 {
     let Progress::Text(from, n) = text else {
         return text;
@@ -50,6 +57,7 @@ pub fn convert_words(work: &mut [u8], text: Progress) -> Progress
 pub fn convert_greek_capitals(work: &mut [u8], text: Progress) -> Progress
     requires { ⌜ Ready (now work) text ⌝ }
     ensures { λ r. ⌜ Staged (now (work .entry)) (now (work .exit)) text r convertGreekCapitals ⌝ }
+    ensures { λ r. ⌜ Untouched (now (work .entry)) (now (work .exit)) text r (map capitalMatch greekCapitals) ⌝ }
 {
     name_tables::apply_rows(work, text, 0, NameKind::Capital, &tables::CAPITALS)
 }

@@ -12,9 +12,10 @@ use Rattle.text.specs.Writer.{Appended}
 use Rattle.text.specs.Sweep.{Sweeping, restFrom, rest-read, symbols-read, sweeping-more, sweeping-kept}
 use Rattle.text_symbols.specs.Trim.{spanned}
 use Rattle.text_symbols.specs.declared.Span.{Span}
+use Rattle.pattern_rewriting.specs.declared.PatternKind.{PatternKind}
 use Rattle.pattern_rewriting.specs.declared.Edit.{Edit}
 use Rattle.pattern_rewriting.specs.declared.Edit.the-variants.{Copy, Write}
-use Rattle.pattern_rewriting.specs.Edits.{ending, editTurn, EditFits, EditSound, Edited}
+use Rattle.pattern_rewriting.specs.Edits.{ending, editTurn, EditFits, EditSound, patternRule, Edited}
 
 -- what is written is little beside the symbols that are taken
 written-few : (left s : List ℕ) (closed : Bool) (taken : ℕ) → length left ≤ 64 → length s ≤ taken → 0 < taken → length (left ++ s ++ ending closed) ≤ 1024 * (1 + pred taken)
@@ -22,10 +23,13 @@ written-few left s true taken l h some = simp length-append (omega arith)
 written-few left s false taken l h some = simp length-append (omega arith)
 
 module _
-    {rule : Rule} {left w₀ w : List ℕ} {from n to cap count₀ count i : ℕ}
-    (sweeping : Sweeping rule w₀ w from n to cap count₀ count i) (more : i < n)
-    {r : Edit} (edited : Edited rule left (restFrom from n i w) r)
+    {kind : PatternKind} {pattern left w₀ w : List ℕ} {from n to cap count₀ count i : ℕ}
+    (sweeping : Sweeping (patternRule kind pattern left) w₀ w from n to cap count₀ count i) (more : i < n)
+    {r : Edit} (edited : Edited kind pattern left (restFrom from n i w) r)
   where
+    abbrev rule : Rule
+    rule = patternRule kind pattern left
+
     turn-found : rule (getD (0 ∷ part from n w₀) i 0) (drop i (part from n w₀)) ≡ editTurn left (drop i (part from n w₀)) r
     turn-found = subst (λ s. rule (getD (0 ∷ part from n w₀) i 0) s ≡ editTurn left s r) (rest-read sweeping) (edited .turn (getD (0 ∷ part from n w₀) i 0))
 

@@ -5,17 +5,24 @@ mod rules;
 pub use rules::edit_at;
 use text::Due;
 use text::Progress;
+use text_search::Found;
 use text_symbols::Span;
-ghost use Prim.Native.Nat.{_+_, _-_, _≤_};
-ghost use mathlib.Core.List.{_++_};
+ghost use mathlib.Core.Path.{_≡_};
+ghost use Prim.Native.Nat.{_+_, _-_, _≤_, _<_};
+ghost use mathlib.Core.List.{[], _∷_, _++_};
 ghost use lib.ListN.{length};
+ghost use Rattle.spec.specs.Symbols.{bytes, contains};
 ghost use Rattle.spec.specs.Result.{stage, mostSymbols};
 ghost use Rattle.spec.specs.Sweep.{sweep, replace};
 ghost use Rattle.spec.specs.Words.{convertSqrt};
+ghost use Rattle.spec.specs.Matches.{somewhere};
+ghost use Rattle.spec.specs.Laws.Matches.{somewhereFrom};
+ghost use Rattle.text_search.specs.Half.{halfWork};
 ghost use Rattle.text_symbols.specs.Parts.{part};
 ghost use Rattle.text.specs.Writer.{Room, Appended, Apart, Regions};
 ghost use Rattle.text.specs.Stage.{Ready, Staged};
-ghost use Rattle.pattern_rewriting.specs.Edits.{PatternTextsFit, ending, patternRule};
+ghost use Rattle.text.specs.Untouched.{Untouched};
+ghost use Rattle.pattern_rewriting.specs.Edits.{PatternTextsFit, ending, patternRule, patternAt};
 
 // What is done where the pattern stands.
 pub enum PatternKind {
@@ -35,6 +42,23 @@ pub enum Edit {
     Copy,
     // The symbols of the span are kept, so many are taken in all, and a brace closes them or not.
     Write(Span, usize, bool),
+}
+
+// Whether there is a match from `start` on. Behind it, only where the pattern stands is more looked at.
+fn is_matched(s: &[u8], start: usize, kind: PatternKind, pattern: &[u8]) -> bool
+    requires { ⌜ (start < length (now s)) × ((length (now s) ≤ halfWork) × (0 < length (now pattern))) ⌝ }
+    ensures { λ r. ⌜ r ≡ somewhereFrom (patternAt kind (now (pattern .entry))) (now (s .entry)) start ⌝ }
+{
+    let mut i = start;
+    loop {
+        let Edit::Copy = edit_at(&s[i..], kind, pattern) else {
+            return true;
+        };
+        let Found::At(at) = text_search::find_from(s, i + 1, pattern) else {
+            return false;
+        };
+        i = at;
+    }
 }
 
 // Appends a closing brace, or nothing.
@@ -68,7 +92,8 @@ fn put_edit(
     put_ending(work, to, filled, closed)
 }
 
-// Writes the `n` symbols at `from` to `to`, rewritten. The result is the finished text's length.
+// Writes the `n` symbols at `from` to `to`, rewritten: what stands before the pattern is copied at once. The result is the finished
+// text's length.
 pub fn rewrite(
     work: &mut [u8],
     from: usize,
@@ -90,6 +115,10 @@ pub fn rewrite(
         let Edit::Write(span, taken, closed) = edit_at(&work[at..end], kind, pattern) else {
             count = text::copy_one(work, at, to, text::CAP, count);
             i += 1;
+            let next = from + i;
+            let gap = text_search::gap(&work[next..end], pattern);
+            count = text::copy(work, next, gap, to, text::CAP, count);
+            i += gap;
             continue;
         };
         let inside = i + span.start;
@@ -107,7 +136,7 @@ pub fn rewrite(
     count
 }
 
-// The stage that rewrites. Where the pattern does not occur, the text stays where it is.
+// The stage that rewrites. Where there is no match, every byte stays as it is.
 pub fn convert_pattern(
     work: &mut [u8],
     text: Progress,
@@ -118,10 +147,15 @@ pub fn convert_pattern(
     requires { ⌜ Ready (now work) text ⌝ }
     requires { ⌜ PatternTextsFit (now pattern) (now left) ⌝ }
     ensures { λ r. ⌜ Staged (now (work .entry)) (now (work .exit)) text r (stage (sweep (patternRule kind (now (pattern .entry)) (now (left .entry))) 0 0)) ⌝ }
+    ensures { λ r. ⌜ Untouched (now (work .entry)) (now (work .exit)) text r (somewhere (patternAt kind (now (pattern .entry))) 0 ∷ []) ⌝ }
 {
-    let Due::Rewrite(from, n, to, _) = text::due_for(work, text, pattern) else {
+    let Due::Rewrite(from, n, to, first) = text::due_for(work, text, pattern) else {
         return text;
     };
+    let end = from + n;
+    if !is_matched(&work[from..end], first, kind, pattern) {
+        return text;
+    }
     let count = rewrite(work, from, n, to, kind, pattern, left);
     text::finished(to, count)
 }
@@ -131,6 +165,7 @@ pub fn replace(work: &mut [u8], text: Progress, pattern: &[u8], fresh: &[u8]) ->
     requires { ⌜ Ready (now work) text ⌝ }
     requires { ⌜ PatternTextsFit (now pattern) (now fresh) ⌝ }
     ensures { λ r. ⌜ Staged (now (work .entry)) (now (work .exit)) text r (stage (replace (now (pattern .entry)) (now (fresh .entry)))) ⌝ }
+    ensures { λ r. ⌜ Untouched (now (work .entry)) (now (work .exit)) text r (contains (now (pattern .entry)) ∷ []) ⌝ }
 {
     convert_pattern(work, text, PatternKind::Literal, pattern, fresh)
 }
@@ -139,6 +174,7 @@ pub fn replace(work: &mut [u8], text: Progress, pattern: &[u8], fresh: &[u8]) ->
 pub fn convert_sqrt(work: &mut [u8], text: Progress) -> Progress
     requires { ⌜ Ready (now work) text ⌝ }
     ensures { λ r. ⌜ Staged (now (work .entry)) (now (work .exit)) text r (stage convertSqrt) ⌝ }
+    ensures { λ r. ⌜ Untouched (now (work .entry)) (now (work .exit)) text r (contains (bytes "sqrt(") ∷ []) ⌝ }
 {
     convert_pattern(work, text, PatternKind::ParenToBrace, b"sqrt(", b"\\sqrt{")
 }

@@ -9,14 +9,13 @@ ghost use mathlib.Core.List.{List};
 ghost use Prim.Native.Nat.{ℕ, _≤_, _<_};
 ghost use lib.ListN.{length};
 ghost use Rattle.text_search.specs.Half.{halfWork};
-ghost use Rattle.spec.specs.Sweep.{replacing};
-ghost use Rattle.spec.specs.Words.{parenToBrace};
-ghost use Rattle.pattern_rewriting.specs.Edits.{Edited, PatternMet, patternRule, wrapTextBy, wrapMulticharBy};
+ghost use Rattle.pattern_rewriting.specs.declared.PatternKind.the-variants.{Literal, ParenToBrace, WrapText, WrapMultichar};
+ghost use Rattle.pattern_rewriting.specs.Edits.{Edited, PatternMet};
 
 // The text begins with a pattern that ends with a parenthesis. With no closer, all of the text is taken.
 fn paren_to_brace(s: &[u8], pattern: &[u8]) -> Edit
     requires { ⌜ PatternMet (now pattern) (now s) ⌝ }
-    ensures { λ r. ⌜ ((left : List ℕ) → Edited (parenToBrace (now (pattern .entry)) left) left (now (s .entry)) r) ⌝ }
+    ensures { λ r. ⌜ ((left : List ℕ) → Edited ParenToBrace (now (pattern .entry)) left (now (s .entry)) r) ⌝ }
 {
     let open = pattern.len();
     let Found::At(k) = text_closing::find_matching_paren(&s[open..]) else {
@@ -43,7 +42,7 @@ fn paren_to_brace(s: &[u8], pattern: &[u8]) -> Edit
 // The text begins with a pattern of a sign and `\text{`. With no closer, nothing is done.
 fn wrap_text(s: &[u8], pattern: &[u8]) -> Edit
     requires { ⌜ PatternMet (now pattern) (now s) ⌝ }
-    ensures { λ r. ⌜ ((left : List ℕ) → Edited (wrapTextBy (now (pattern .entry)) left) left (now (s .entry)) r) ⌝ }
+    ensures { λ r. ⌜ ((left : List ℕ) → Edited WrapText (now (pattern .entry)) left (now (s .entry)) r) ⌝ }
 {
     let open = pattern.len();
     let Found::At(k) = text_closing::find_matching_brace(&s[open..]) else {
@@ -56,7 +55,7 @@ fn wrap_text(s: &[u8], pattern: &[u8]) -> Edit
 // The text begins with a sign. Letters and digits behind it, two at the least, get braces.
 fn wrap_multichar(s: &[u8], pattern: &[u8]) -> Edit
     requires { ⌜ PatternMet (now pattern) (now s) ⌝ }
-    ensures { λ r. ⌜ ((left : List ℕ) → Edited (wrapMulticharBy (now (pattern .entry)) left) left (now (s .entry)) r) ⌝ }
+    ensures { λ r. ⌜ ((left : List ℕ) → Edited WrapMultichar (now (pattern .entry)) left (now (s .entry)) r) ⌝ }
 {
     let end = text_symbols::run_end(s, 1, Class::Alnum);
     if 2 < end {
@@ -68,7 +67,7 @@ fn wrap_multichar(s: &[u8], pattern: &[u8]) -> Edit
 // The text begins with the pattern, which is taken.
 fn literal(s: &[u8], pattern: &[u8]) -> Edit
     requires { ⌜ PatternMet (now pattern) (now s) ⌝ }
-    ensures { λ r. ⌜ ((left : List ℕ) → Edited (replacing (now (pattern .entry)) left) left (now (s .entry)) r) ⌝ }
+    ensures { λ r. ⌜ ((left : List ℕ) → Edited Literal (now (pattern .entry)) left (now (s .entry)) r) ⌝ }
 {
     Edit::Write(Span { start: 0, end: 0 }, pattern.len(), false)
 }
@@ -76,7 +75,7 @@ fn literal(s: &[u8], pattern: &[u8]) -> Edit
 // What is done with the text's first symbol, or with more of them.
 pub fn edit_at(s: &[u8], kind: PatternKind, pattern: &[u8]) -> Edit
     requires { ⌜ (length (now s) ≤ halfWork) × (0 < length (now pattern)) ⌝ }
-    ensures { λ r. ⌜ ((left : List ℕ) → Edited (patternRule kind (now (pattern .entry)) left) left (now (s .entry)) r) ⌝ }
+    ensures { λ r. ⌜ ((left : List ℕ) → Edited kind (now (pattern .entry)) left (now (s .entry)) r) ⌝ }
 {
     if !text_search::starts_with(s, pattern) {
         return Edit::Copy;

@@ -2,14 +2,19 @@
 // rewriting is a stage of its own, for one sign.
 use pattern_rewriting::PatternKind;
 use text::Progress;
+ghost use mathlib.Core.List.{[], _∷_};
+ghost use Rattle.spec.specs.Symbols.{bytes, contains};
+ghost use Rattle.spec.specs.Matches.{wrapTextMatch, wrapMulticharMatch, scriptMatches, subscriptMatches, superscriptMatches};
 ghost use Rattle.spec.specs.Result.{stage};
 ghost use Rattle.spec.specs.Scripts.{convertParenToBrace, wrapTextSubscripts, wrapMulticharScripts, convertScripts, convertSubscripts, convertSuperscripts};
 ghost use Rattle.text.specs.Stage.{Ready, Staged};
+ghost use Rattle.text.specs.Untouched.{Untouched};
 
 // `_(`..`)` becomes `_{`..`}`; what stands inside is copied as it is.
 pub fn convert_paren_to_brace(work: &mut [u8], text: Progress, sign: u8) -> Progress
     requires { ⌜ Ready (now work) text ⌝ }
     ensures { λ r. ⌜ Staged (now (work .entry)) (now (work .exit)) text r (stage (convertParenToBrace sign)) ⌝ }
+    ensures { λ r. ⌜ Untouched (now (work .entry)) (now (work .exit)) text r (contains (sign ∷ bytes "(") ∷ []) ⌝ }
 {
     let pattern = [sign, b'('];
     let left = [sign, b'{'];
@@ -20,6 +25,7 @@ pub fn convert_paren_to_brace(work: &mut [u8], text: Progress, sign: u8) -> Prog
 pub fn wrap_text_subscripts(work: &mut [u8], text: Progress, sign: u8) -> Progress
     requires { ⌜ Ready (now work) text ⌝ }
     ensures { λ r. ⌜ Staged (now (work .entry)) (now (work .exit)) text r (stage (wrapTextSubscripts sign)) ⌝ }
+    ensures { λ r. ⌜ Untouched (now (work .entry)) (now (work .exit)) text r (wrapTextMatch sign ∷ []) ⌝ }
 {
     let pattern = [sign, b'\\', b't', b'e', b'x', b't', b'{'];
     let left = [sign, b'{'];
@@ -30,6 +36,7 @@ pub fn wrap_text_subscripts(work: &mut [u8], text: Progress, sign: u8) -> Progre
 pub fn wrap_multichar_scripts(work: &mut [u8], text: Progress, sign: u8) -> Progress
     requires { ⌜ Ready (now work) text ⌝ }
     ensures { λ r. ⌜ Staged (now (work .entry)) (now (work .exit)) text r (stage (wrapMulticharScripts sign)) ⌝ }
+    ensures { λ r. ⌜ Untouched (now (work .entry)) (now (work .exit)) text r (wrapMulticharMatch sign ∷ []) ⌝ }
 {
     let pattern = [sign];
     let left = [sign, b'{'];
@@ -39,6 +46,7 @@ pub fn wrap_multichar_scripts(work: &mut [u8], text: Progress, sign: u8) -> Prog
 fn convert_scripts(work: &mut [u8], text: Progress, sign: u8) -> Progress
     requires { ⌜ Ready (now work) text ⌝ }
     ensures { λ r. ⌜ Staged (now (work .entry)) (now (work .exit)) text r (convertScripts sign) ⌝ }
+    ensures { λ r. ⌜ Untouched (now (work .entry)) (now (work .exit)) text r (scriptMatches sign) ⌝ }
 {
     let grouped = convert_paren_to_brace(work, text, sign);
     let blocked = wrap_text_subscripts(work, grouped, sign);
@@ -49,6 +57,7 @@ fn convert_scripts(work: &mut [u8], text: Progress, sign: u8) -> Progress
 pub fn convert_subscripts(work: &mut [u8], text: Progress) -> Progress
     requires { ⌜ Ready (now work) text ⌝ }
     ensures { λ r. ⌜ Staged (now (work .entry)) (now (work .exit)) text r convertSubscripts ⌝ }
+    ensures { λ r. ⌜ Untouched (now (work .entry)) (now (work .exit)) text r subscriptMatches ⌝ }
 {
     convert_scripts(work, text, b'_')
 }
@@ -57,6 +66,7 @@ pub fn convert_subscripts(work: &mut [u8], text: Progress) -> Progress
 pub fn convert_superscripts(work: &mut [u8], text: Progress) -> Progress
     requires { ⌜ Ready (now work) text ⌝ }
     ensures { λ r. ⌜ Staged (now (work .entry)) (now (work .exit)) text r convertSuperscripts ⌝ }
+    ensures { λ r. ⌜ Untouched (now (work .entry)) (now (work .exit)) text r superscriptMatches ⌝ }
 {
     convert_scripts(work, text, b'^')
 }

@@ -5,6 +5,7 @@ pub mod Names
 pub mod Ends
 pub mod Sweep
 pub mod Absent
+pub mod Matches
 pub mod Held
 pub mod Attach
 pub mod Order

@@ -10,6 +10,7 @@ pub mod Held
 pub mod Definitions
 pub mod Rows
 pub mod Words
+pub mod Matches
 pub mod Scripts
 pub mod Fractions
 pub mod Finish

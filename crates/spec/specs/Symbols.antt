@@ -69,6 +69,10 @@ abbrev pub _andThen_ : {A B : Type 0} → Option A → (A → Option B) → Opti
 none andThen f = none
 some a andThen f = f a
 
+abbrev pub isSome : Option (List ℕ) → Bool
+isSome none = false
+isSome (some s) = true
+
 -- ---- lists
 -- 0 stands for no symbol: at the start of a text, and behind its end
 abbrev pub head : List ℕ → ℕ

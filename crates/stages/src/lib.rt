@@ -1,11 +1,14 @@
 // All stages, in the Rust's order and by its names.
 use text::Progress;
+ghost use mathlib.Core.List.{_∷_, map};
 ghost use Rattle.spec.specs.Result.{stage};
 ghost use Rattle.spec.specs.Definitions.{applyDefinitionsOutsideText};
+ghost use Rattle.spec.specs.Matches.{definedMatch, textOpening};
 ghost use Rattle.spec.specs.Fractions.{convertFractions};
 ghost use Rattle.spec.specs.Finish.{sizeDelimitersToContent};
 ghost use Rattle.spec.specs.Pipeline.{onDisplay, convertSyntax, typstToLatex, definitionsOr};
 ghost use Rattle.text.specs.Stage.{Ready, Answered, Staged, shown};
+ghost use Rattle.text.specs.Untouched.{Untouched};
 ghost use Rattle.stages.specs.Fit.{Bare, Admissible};
 
 // The body of the Rust's `typst_to_latex`.
@@ -56,6 +59,7 @@ fn apply_definitions_outside_text(work: &mut [u8], text: Progress, table: &[u8])
     requires { ⌜ Ready (now work) text ⌝ }
     requires { ⌜ Admissible (now table) (shown text (now work)) ⌝ }
     ensures { λ r. ⌜ Answered (now (work .entry)) (now (work .exit)) text r (applyDefinitionsOutsideText (definitionsOr (now (table .entry)))) ⌝ }
+    ensures { λ r. ⌜ Untouched (now (work .entry)) (now (work .exit)) text r (textOpening ∷ map definedMatch (definitionsOr (now (table .entry)))) ⌝ }
 {
     let Progress::Text(_, _) = text else {
         return text;

@@ -5,3 +5,4 @@ pub mod Filling
 pub mod Sweep
 pub mod Stage
 pub mod Due
+pub mod Untouched

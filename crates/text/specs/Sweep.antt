@@ -1,17 +1,21 @@
 -- The invariant of a loop that sweeps the n symbols at `from` and writes at `to`.
 --     Sweeping        it stands at place i
---     sweeping-none   it begins; `sweeping-more`: one turn; `sweeping-all`: it is done
+--     sweeping-none   it begins; `sweeping-more`: one turn; `sweeping-gap`: what stands before a pattern; `sweeping-all`: it is done
 -- Assumes nothing.
 use mathlib.Core.Path.{_≡_, refl, sym, ap, _∙_, subst}
 use mathlib.Core.List.{List, [], _∷_, _++_, append-assoc, append-nil}
 use Prim.Native.Nat.{ℕ, _+_, _-_, _*_, _<_, _≤_}
 use native.Mathlib.Nat.{add-zero}
 use native.Mathlib.Omega.{arith}
-use lib.ListN.{length, getD, take, drop, length-take}
+use lib.ListN.{length, getD, take, drop, length-take, length-drop}
+use lib.Seq.{drop-drop}
+use mathlib.Core.Bool.{false}
+use Rattle.spec.specs.Symbols.{starts}
+use Rattle.text_search.specs.Search.{Gap}
 use Rattle.spec.specs.Pipeline.{leastWork}
 use Rattle.spec.specs.Sweep.{Turn, Rule, kept, sweep}
 use Rattle.spec.specs.Laws.Symbols.{drop-step}
-use Rattle.spec.specs.Laws.Sweep.{swept, swept-turn, swept-end}
+use Rattle.spec.specs.Laws.Sweep.{Waits, swept, swept-turn, swept-copied, swept-end}
 use Rattle.text_symbols.specs.Parts.{part, length-part, getD-part, rest-part, whole-part, sub-part}
 use Rattle.text.specs.Writer.{Room, Appended, Apart, Regions, apart-part, appended-none, appended-more, appended-long, appended-part}
 
@@ -55,6 +59,39 @@ module _ {rule : Rule} {w₀ w : List ℕ} {from n to cap count₀ count i : ℕ
 
   pub symbols-apart : (j m : ℕ) → j + m ≤ n → Apart (from + j) m to cap
   symbols-apart j m h = apart-part from n to cap j m (regions .apart) h
+
+  -- the symbols before the pattern that the rule waits for
+  module _ {pattern : List ℕ} {k : ℕ} (gap : Gap pattern (restFrom from n i w) k) (within : i ≤ n) where
+    pub gap-within : i + k ≤ n
+    gap-within =
+        let l = ap length rest-read ∙ length-drop i (part from n w₀) in let m = length-part from n w₀ (regions .source) in let h = gap .within in
+        omega arith
+
+    -- what `copy` asks
+    pub gap-room : Room w to cap count k × ((from + i + k ≤ length w) × Apart (from + i) k to cap)
+    gap-room =
+        let h = gap-within in let l = sweeping .long in let r = regions .region in let s = regions .small in let c = sweeping .bounded in let o = regions .source in
+        (record { region = omega arith; small = omega arith }, (omega arith, symbols-apart i k gap-within))
+
+    pub sweeping-gap : {w′ : List ℕ} {count′ : ℕ} → Waits pattern rule → Appended w w′ to cap count count′ (part (from + i) k w) → Sweeping rule w₀ w′ from n to cap count₀ count′ (i + k)
+    sweeping-gap {w′} {count′} waits a =
+        let s = part from n w₀ in
+        let l = length-part from n w₀ (regions .source) in
+        let h = gap-within in let c = sweeping .bounded in
+        let read : part (from + i) k w ≡ take k (drop i s) = symbols-read i k gap-within in
+        let d = a .counted in let t = ap length read in let m = length-take k (drop i s) in
+        record {
+          regions = regions;
+          out = sweeping .out ++ take k (drop i s);
+          appended = appended-more (sweeping .appended) (rw read at a);
+          long = appended-long a ∙ sweeping .long;
+          same-as-whole = append-assoc (sweeping .out) (take k (drop i s)) (swept rule s (i + k))
+              ∙ ap (λ r. sweeping .out ++ r) (sym (swept-copied rule s i k (omega arith) (λ j less. waits .copies (getD (0 ∷ s) (i + j) 0) (drop (i + j) s) (free j less)))) ∙ sweeping .same-as-whole;
+          bounded = omega arith;
+        }
+      where
+        free : (j : ℕ) → j < k → starts pattern (drop (i + j) (part from n w₀)) ≡ false
+        free j less = ap (starts pattern) (sym (ap (drop j) rest-read ∙ drop-drop j i (part from n w₀))) ∙ gap .free j less
 
   module _ (more : i < n) where
     pub turn-room : (m : ℕ) → m ≤ leastWork → Room w to cap count m

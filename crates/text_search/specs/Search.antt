@@ -1,6 +1,7 @@
 -- What a search answers: an offset, or nothing. The definitions give the text that lies from there on, or behind it.
 --     onward, Finds        of a search whose offset is where the found text begins
 --     leftOver, Closes     of a search whose offset is a closer's or a comma's, and what it leaves over lies behind it
+--     Gap                  of the symbols before a pattern
 --     Passed, Sought       of a search for one symbol
 --     PrefixMet            the loop of `starts_with`: the pattern's first i symbols have been met
 -- Assumes nothing.
@@ -16,8 +17,8 @@ use lib.Dec.{eqb}
 use lib.ListN.{length, getD, take, drop, length-drop, drop-of-length-le}
 use borrow.Author.Tests.{eqb-false}
 use lib.Seq.{drop-drop}
-use Rattle.spec.specs.Laws.Symbols.{drop-step, any-end, starts-other, starts-same, isSome, contains-find, find-drop}
-use Rattle.spec.specs.Symbols.{any, inside, until, starts, find, contains}
+use Rattle.spec.specs.Laws.Symbols.{drop-step, any-end, starts-other, starts-same, contains-find, find-drop, find-nowhere}
+use Rattle.spec.specs.Symbols.{isSome, any, inside, until, starts, find, contains}
 use Rattle.text_symbols.specs.Parts.{part, rest-of}
 use Rattle.text_search.specs.declared.Found.{Found}
 use Rattle.text_search.specs.declared.Found.the-variants.{At, Nothing}
@@ -142,6 +143,36 @@ find-passed (k ∷ w) s {i} {first} {r} f other h q =
         (ap (starts (k ∷ w)) (drop-step s j here) ∙ starts-other k (getD s j 0) w (drop (j + 1) s) (λ same. q .absent j l less (same ∙ sym f)))
         ∙ go n (j + 1) (omega arith) (omega arith)
 
+-- ---- the symbols before a pattern: it begins at none of them
+pub record Gap (pattern s : List ℕ) (r : ℕ) : Type 0 where
+  pub within : r ≤ length s
+  pub free : (j : ℕ) → j < r → starts pattern (drop j s) ≡ false
+
+free-before : (pattern s : List ℕ) (k : ℕ) → k < length s → find pattern s ≡ some (drop k s) → (j : ℕ) → j < k → starts pattern (drop j s) ≡ false
+unfolding find
+free-before pattern [] k h e j l = absurd (omega arith)
+free-before pattern (x ∷ s) zero h e j l = absurd (omega arith)
+free-before pattern (x ∷ s) (suc k) h e j l = go (starts pattern (x ∷ s)) refl e (λ f i m. free-before pattern s k (omega arith) f i m) j l
+  where
+    go :
+        (t : Bool) → starts pattern (x ∷ s) ≡ t → _≡_ {A = Option (List ℕ)} (elim t [ true ↦ some (x ∷ s) | false ↦ find pattern s ]) (some (drop k s))
+        → (find pattern s ≡ some (drop k s) → (j : ℕ) → j < k → starts pattern (drop j s) ≡ false)
+        → (j : ℕ) → j < suc k → starts pattern (drop j (x ∷ s)) ≡ false
+    go true here e later j l = let same : x ∷ s ≡ drop k s = cc in let m = ap length same in let d = length-drop k s in absurd (omega arith)
+    go false other e later zero l = other
+    go false other e later (suc j) l = later e j (omega arith)
+
+free-nowhere : (pattern s : List ℕ) → find pattern s ≡ none → (j : ℕ) → j < length s → starts pattern (drop j s) ≡ false
+free-nowhere pattern [] e j l = absurd (omega arith)
+free-nowhere pattern (x ∷ s) e zero l = find-nowhere pattern x s e .0
+free-nowhere pattern (x ∷ s) e (suc j) l = free-nowhere pattern s (find-nowhere pattern x s e .1) j (omega arith)
+
+pub gap-before : {pattern s : List ℕ} {r : Found} {k : ℕ} → Finds s r (find pattern s) → r ≡ At k → Gap pattern s k
+gap-before {pattern} {s} {k = k} f e = let h = finds-within f e in record { within = omega arith; free = free-before pattern s k h (finds-at f e) }
+
+pub gap-whole : {pattern s : List ℕ} {r : Found} → Finds s r (find pattern s) → r ≡ Nothing → Gap pattern s (length s)
+gap-whole {pattern} {s} f e = record { within = omega arith; free = free-nowhere pattern s (finds-nothing f e) }
+
 -- ---- whether a pattern occurs
 pub contains-at : (w s : List ℕ) {r : Found} {k : ℕ} → Finds s r (find w s) → r ≡ At k → contains w s ≡ true
 contains-at w s f e = sym (contains-find w s) ∙ ap isSome (finds-at f e)
@@ -165,6 +196,11 @@ module _ (s : List ℕ) (i : ℕ) (f : List ℕ → Option (List ℕ)) {r : Foun
   finds-rest a = subst (λ l. Finds l r (f l)) (rest-of i s) a
 
 -- what is found there stands so much later in the whole
+pub finds-later : {s : List ℕ} {r : Found} {o : Option (List ℕ)} {k : ℕ} (i : ℕ) → Finds (drop i s) r o → r ≡ At k → Finds s (At (i + k)) o
+finds-later {s} {k = k} i a e =
+    let w = finds-within a e in let d = length-drop i s in
+    record { within = omega arith; found = ap some (sym (drop-drop k i s)) ∙ sym (finds-at a e) }
+
 pub closes-later : {s : List ℕ} {r : Found} {o : Option (List ℕ)} {k : ℕ} (i : ℕ) → i ≤ length s → Closes (drop i s) r o → r ≡ At k → Closes s (At (i + k)) o
 closes-later {s} {k = k} i h a e =
     let w = closes-within a e in let d = length-drop i s in

@@ -3,9 +3,9 @@ ghost use mathlib.Core.Path.{_≡_};
 ghost use mathlib.Core.List.{_∷_};
 ghost use Prim.Native.Nat.{_≤_};
 ghost use lib.Dec.{eqb};
-ghost use lib.ListN.{length, getD};
+ghost use lib.ListN.{length, getD, drop};
 ghost use Rattle.spec.specs.Symbols.{any, same, starts, find as found, contains as occurs};
-ghost use Rattle.text_search.specs.Search.{Finds, Passed, Sought};
+ghost use Rattle.text_search.specs.Search.{Finds, Gap, Passed, Sought};
 
 // What a search answers.
 pub enum Found {
@@ -89,7 +89,7 @@ fn seek(s: &[u8], i: usize, b: u8) -> usize
     k
 }
 
-// The offset of the pattern's first occurrence. Only where its first symbol stands is more of it looked at.
+// The place of the pattern's first occurrence. Only where its first symbol stands is more of it looked at.
 pub fn find(s: &[u8], pattern: &[u8]) -> Found
     ensures { λ r. ⌜ Finds (now (s .entry)) r (found (now (pattern .entry)) (now (s .entry))) ⌝ }
 {
@@ -102,6 +102,27 @@ pub fn find(s: &[u8], pattern: &[u8]) -> Found
         i = seek(s, i + 1, first);
     }
     Found::Nothing
+}
+
+// The place of its first occurrence from `start` on.
+pub fn find_from(s: &[u8], start: usize, pattern: &[u8]) -> Found
+    requires { ⌜ start ≤ length (now s) ⌝ }
+    ensures { λ r. ⌜ Finds (now (s .entry)) r (found (now (pattern .entry)) (drop start (now (s .entry)))) ⌝ }
+{
+    let Found::At(k) = find(&s[start..], pattern) else {
+        return Found::Nothing;
+    };
+    Found::At(start + k)
+}
+
+// How many symbols stand before its first occurrence: all of them, where there is none.
+pub fn gap(s: &[u8], pattern: &[u8]) -> usize
+    ensures { λ r. ⌜ Gap (now (pattern .entry)) (now (s .entry)) r ⌝ }
+{
+    let Found::At(k) = find(s, pattern) else {
+        return s.len();
+    };
+    k
 }
 
 // Whether the pattern occurs.

@@ -1,11 +1,12 @@
 -- `definitions::apply_definition` meets its contract, by its test. Assumes nothing.
+use Rattle.text.specs.Untouched.{untouched-same}
 use Rattle.definitions.specs.Applying.{record-fair, one-byte-skipped, applied}
 use borrow.Author.Needs.{needs}
 use Rattle.definitions.proofs.apply_definition.Statement.{statement}
 use Rattle.definitions.proofs.apply_definition.Tie as tie
 
 returns : tie.Need-returns
-returns c = let s = c .before .before .before in one-byte-skipped (s .pre .1 .1) (c .if1 .taken) (s .pre .0) (s .pre .1 .0)
+returns c = let s = c .before .before .before in (one-byte-skipped (s .pre .1 .1) (c .if1 .taken) (s .pre .0) (s .pre .1 .0), untouched-same)
 
 apply-requires : tie.Need-apply-requires
 apply-requires c κs =

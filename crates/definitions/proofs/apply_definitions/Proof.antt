@@ -14,7 +14,7 @@ use Rattle.table.specs.Reading.{ReadingLies, stands-lies, stands-short, definit
 use Rattle.table.specs.Order.{Reached, chosen, remaining, next-remaining, next-done, listed-distinct}
 use Rattle.table.proofs.Tags.{unless-whole}
 use Rattle.table.specs.Sound.{not-refused}
-use Rattle.definitions.specs.Applying.{DefinitionsLeft, left-none, left-more, left-done, next-usable}
+use Rattle.definitions.specs.Applying.{DefinitionsLeft, left-none, left-more, left-done, left-untouched, next-usable}
 use Rattle.definitions.proofs.apply_definitions.Statement.{statement}
 use Rattle.definitions.proofs.apply_definitions.Tie as tie
 
@@ -42,7 +42,10 @@ returns c =
     let at-start : tie.Start Inv-loop μ-loop = search in
     let s = at-start .args .table .now in
     let none-left = unless-whole (chosen s) refl refl (c .before .next .result) (c .match .keys2) in
-    λ ds e. remaining-all (at-loop .loop .inv .1 .1 ds e .stages) (left-done s (at-loop .loop .cursor) (at-start .args .extra) (next-done (c .before .next .ensures) none-left))
+    let left = at-loop .loop .inv .1 .1 in (
+      λ ds e. remaining-all (left ds e .stages) (left-done s (at-loop .loop .cursor) (at-start .args .extra) (next-done (c .before .next .ensures) none-left)),
+      λ ds e. left-untouched (left ds e),
+    )
 
 -- what is left where a record has been picked
 module _ (c : tie.After-known-told Inv-loop μ-loop) where
@@ -91,7 +94,7 @@ loop-again c =
     let a = c .before .before .apply-definition .ensures in (
       stands-lies (stands at-known-told),
       (
-        a .staged .answered .long ∙ at-loop .loop .inv .1 .0,
+        a .0 .staged .answered .long ∙ at-loop .loop .inv .1 .0,
         λ ds e. left-more (at-start .args .table .now) (at-loop .loop .cursor) (found at-known-told) (step at-known-told) (at-loop .loop .inv .1 .1 ds e) a,
       ),
     )

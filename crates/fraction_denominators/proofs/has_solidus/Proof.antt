@@ -1,7 +1,6 @@
 -- `fraction_denominators::has_solidus` meets its contract: the mark is a pattern of one symbol. Assumes nothing.
 use Rattle.fraction_denominators.specs.After.{any-found}
-use Rattle.spec.specs.Symbols.{solidus}
-use Rattle.spec.specs.Laws.Symbols.{isSome}
+use Rattle.spec.specs.Symbols.{solidus, isSome}
 use Rattle.text_search.specs.Search.{finds-at, finds-nothing}
 use borrow.Author.Needs.{needs}
 use mathlib.Core.Path.{sym, ap, _∙_}

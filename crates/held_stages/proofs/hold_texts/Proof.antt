@@ -1,10 +1,15 @@
 -- `held_stages::hold_texts` meets its contract. Assumes nothing.
 use native.Mathlib.Omega.{arith}
 use Rattle.text.specs.Stage.{placed-low, placed-fits}
-use mathlib.Core.Path.{refl, sym, _∙_}
+use mathlib.Core.Path.{refl, sym, ap, _∙_}
+use mathlib.Core.Bool.{false}
+use Rattle.spec.specs.Symbols.{bytes, contains}
+use Rattle.spec.specs.Laws.Booleans.{or-left}
+use Rattle.text_symbols.specs.Parts.{whole-part}
+use Rattle.text.specs.Untouched.{untouched-same, untouched-matched}
 use Rattle.held_stages.specs.Outside.{texts-none, hold-first, first-extra, texts-counted}
 use borrow.Author.Needs.{needs}
-use borrow.Author.Tests.{not-true}
+use borrow.Author.Tests.{not-true, not-false}
 use Rattle.held_stages.proofs.hold_texts.Statement.{statement}
 use Rattle.held_stages.proofs.hold_texts.Tie as tie
 
@@ -17,7 +22,7 @@ part-contains-end c = let h = placed-fits (c .before .before .pre .ready) refl i
 returns : tie.Need-returns
 returns c =
     let at-start : tie.Start = search in
-    texts-none (at-start .pre) (sym (c .before .contains .ensures) ∙ not-true _ (c .if1 .taken))
+    (texts-none (at-start .pre) (sym (c .before .contains .ensures) ∙ not-true _ (c .if1 .taken)), untouched-same)
 
 sub-to : tie.Need-sub-to
 sub-to c =
@@ -38,8 +43,10 @@ sub-t22 c =
 returns-2 : tie.Need-returns-2
 returns-2 c =
     let at-hold-out : tie.After-hold-out = search in
+    let else1 : tie.Else1 = search in
     let at-start : tie.Start = search in
-    texts-counted (at-start .pre) (at-hold-out .hold-out .ensures)
+    let opens = ap (contains (bytes "\\text{")) (sym (whole-part (at-start .args .from) (at-start .args .n) (at-start .args .work .now))) ∙ sym (else1 .before .contains .ensures) ∙ not-false _ (else1 .if1 .left) in
+    (texts-counted (at-start .pre) (at-hold-out .hold-out .ensures), untouched-matched refl (or-left false opens))
 
 pub hold-texts-spec : {M : Type 1} → statement M
 hold-texts-spec =

@@ -1,5 +1,5 @@
 -- `held_stages::put_all_back` meets its contract. Assumes nothing.
-use mathlib.Core.Path.{_∙_}
+use mathlib.Core.Path.{refl, sym, _∙_}
 use native.Mathlib.Omega.{arith}
 use Rattle.spec.specs.Held.{withText, putBack}
 use Rattle.text.specs.Stage.{placed-low}
@@ -9,10 +9,10 @@ use Rattle.held_stages.proofs.put_all_back.Statement.{statement}
 use Rattle.held_stages.proofs.put_all_back.Tie as tie
 
 returns : tie.Need-returns
-returns c = λ h carries. back-refused (λ t. putBack (withText h t)) _ (c .enum-told .given .1)
+returns c = (λ h carries. back-refused (λ t. putBack (withText h t)) _ (c .enum-told .given .1), λ none. (refl, refl))
 
 returns-2 : tie.Need-returns-2
-returns-2 c = λ h carries. back-none carries (c .before .before .text .given .1) (c .if1 .taken)
+returns-2 c = let e = c .before .before .text .given .1 in (λ h carries. back-none carries e (c .if1 .taken), λ none. (refl, sym e))
 
 lost-requires : tie.Need-lost-requires
 lost-requires c κs =
@@ -21,8 +21,10 @@ lost-requires c κs =
 
 returns-3 : tie.Need-returns-3
 returns-3 c =
+    let else1 : tie.Else1 = search in
     let at-text : tie.After-text = search in
-    λ h carries. let e = at-text .text .given .1 in back-lost carries e (lost-read carries e (c .before .lost .ensures) ∙ c .if2 .taken)
+    let e = at-text .text .given .1 in
+    (λ h carries. back-lost carries e (lost-read carries e (c .before .lost .ensures) ∙ c .if2 .taken), λ none. absurd (else1 .if1 .left none))
 
 sub-to : tie.Need-sub-to
 sub-to c =
@@ -47,8 +49,12 @@ returns-4 c =
     let at-put-back : tie.After-put-back = search in
     let else2 : tie.Else2 = search in
     let at-lost : tie.After-lost = search in
+    let else1 : tie.Else1 = search in
     let at-text : tie.After-text = search in
-    λ h carries. let e = at-text .text .given .1 in back-whole carries e (at-put-back .put-back .ensures) (lost-read carries e (at-lost .lost .ensures) ∙ else2 .if2 .left) (c .before .before .put-back2 .ensures)
+    let e = at-text .text .given .1 in (
+      λ h carries. back-whole carries e (at-put-back .put-back .ensures) (lost-read carries e (at-lost .lost .ensures) ∙ else2 .if2 .left) (c .before .before .put-back2 .ensures),
+      λ none. absurd (else1 .if1 .left none),
+    )
 
 pub put-all-back-spec : {M : Type 1} → statement M
 put-all-back-spec =

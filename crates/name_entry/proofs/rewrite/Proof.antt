@@ -5,9 +5,10 @@ use native.Mathlib.Omega.{arith}
 use lib.ListN.{length, length-take, length-drop}
 use borrow.Author.Tests.{not-true, not-false}
 use Rattle.spec.specs.Result.{mostSymbols}
-use Rattle.text.specs.Sweep.{Sweeping, sweeping-none, sweeping-all, turn-room, one-room}
-use Rattle.name_entry.specs.Bounded.{bounded}
+use Rattle.text.specs.Sweep.{Sweeping, sweeping-none, sweeping-all, gap-within, gap-room, sweeping-gap, turn-room, one-room}
+use Rattle.name_entry.specs.Bounded.{bounded, bounded-waits}
 use Rattle.name_entry.specs.Turns.{copied-here, taken-within, written-here}
+use borrow.Author.Needs.{needs}
 use Rattle.name_entry.proofs.rewrite.Statement.{statement}
 use Rattle.name_entry.proofs.rewrite.Tie as tie
 
@@ -29,15 +30,55 @@ copy-one-requires c κs =
     let at-loop : tie.At-loop Inv-loop μ-loop = search in
     one-room (at-loop .loop .inv .1) (omega arith)
 
-loop-again : tie.Need-loop-again Inv-loop μ-loop
-loop-again c =
+-- a symbol is copied, and then what stands before the pattern
+copy-requires : tie.Need-copy-requires Inv-loop μ-loop
+copy-requires c κs =
+    let at-gap : tie.After-gap Inv-loop μ-loop = search in
+    let at-copy-one : tie.After-copy-one Inv-loop μ-loop = search in
     let then1 : tie.Then1 Inv-loop μ-loop = search in
     let at-stands : tie.After-stands Inv-loop μ-loop = search in
     let in-loop : tie.In-loop Inv-loop μ-loop = search in
     let at-loop : tie.At-loop Inv-loop μ-loop = search in
     let at-start : tie.Start Inv-loop μ-loop = search in
-    let a = at-start .args in
-    (refl, copied-here (a .bounds) (a .pattern .now) (a .fresh .now) (at-loop .loop .inv .1) (in-loop .loop-test .taken) (at-stands .stands .ensures) (not-true _ (then1 .if1 .taken)) (c .before .before .copy-one .ensures))
+    let a = at-start .args in let more = in-loop .loop-test .taken in
+    let copied = copied-here (a .bounds) (a .pattern .now) (a .fresh .now) (at-loop .loop .inv .1) more (at-stands .stands .ensures) (not-true _ (then1 .if1 .taken)) (at-copy-one .copy-one .ensures) in
+    gap-room copied (at-gap .gap .ensures) (omega arith)
+
+within-gap : (c : tie.After-gap Inv-loop μ-loop) → (let at-loop : tie.At-loop Inv-loop μ-loop = search in let at-start : tie.Start Inv-loop μ-loop = search in at-loop .loop .i + 1 + c .gap .result ≤ at-start .args .n)
+within-gap c =
+    let at-copy-one : tie.After-copy-one Inv-loop μ-loop = search in
+    let then1 : tie.Then1 Inv-loop μ-loop = search in
+    let at-stands : tie.After-stands Inv-loop μ-loop = search in
+    let in-loop : tie.In-loop Inv-loop μ-loop = search in
+    let at-loop : tie.At-loop Inv-loop μ-loop = search in
+    let at-start : tie.Start Inv-loop μ-loop = search in
+    let a = at-start .args in let more = in-loop .loop-test .taken in
+    let copied = copied-here (a .bounds) (a .pattern .now) (a .fresh .now) (at-loop .loop .inv .1) more (at-stands .stands .ensures) (not-true _ (then1 .if1 .taken)) (at-copy-one .copy-one .ensures) in
+    gap-within copied (c .gap .ensures) (omega arith)
+
+add-i-2 : tie.Need-add-i-2 Inv-loop μ-loop
+add-i-2 c =
+    let at-gap : tie.After-gap Inv-loop μ-loop = search in
+    let at-loop : tie.At-loop Inv-loop μ-loop = search in
+    let h = within-gap at-gap in let short = at-loop .loop .inv .1 .regions .short in omega arith
+
+loop-less : tie.Need-loop-less Inv-loop μ-loop
+loop-less c =
+    let at-gap : tie.After-gap Inv-loop μ-loop = search in
+    let h = within-gap at-gap in omega arith
+
+loop-again : tie.Need-loop-again Inv-loop μ-loop
+loop-again c =
+    let at-gap : tie.After-gap Inv-loop μ-loop = search in
+    let at-copy-one : tie.After-copy-one Inv-loop μ-loop = search in
+    let then1 : tie.Then1 Inv-loop μ-loop = search in
+    let at-stands : tie.After-stands Inv-loop μ-loop = search in
+    let in-loop : tie.In-loop Inv-loop μ-loop = search in
+    let at-loop : tie.At-loop Inv-loop μ-loop = search in
+    let at-start : tie.Start Inv-loop μ-loop = search in
+    let a = at-start .args in let more = in-loop .loop-test .taken in
+    let copied = copied-here (a .bounds) (a .pattern .now) (a .fresh .now) (at-loop .loop .inv .1) more (at-stands .stands .ensures) (not-true _ (then1 .if1 .taken)) (at-copy-one .copy-one .ensures) in
+    (refl, sweeping-gap copied (at-gap .gap .ensures) (omega arith) (bounded-waits (a .bounds) (a .pattern .now) (a .fresh .now)) (c .before .before .copy .ensures))
 
 is-spared-requires : tie.Need-is-spared-requires Inv-loop μ-loop
 is-spared-requires c κs =
@@ -47,9 +88,10 @@ is-spared-requires c κs =
 
 put-entry-requires : tie.Need-put-entry-requires Inv-loop μ-loop
 put-entry-requires c κs =
+    let in-loop : tie.In-loop Inv-loop μ-loop = search in
     let at-loop : tie.At-loop Inv-loop μ-loop = search in
     let at-start : tie.Start Inv-loop μ-loop = search in
-    (turn-room (at-loop .loop .inv .1) (omega arith) 1024 (omega arith), at-start .pre .1)
+    (turn-room (at-loop .loop .inv .1) (in-loop .loop-test .taken) 1024 (omega arith), at-start .pre .1)
 
 -- where the pattern stands, it lies within the text
 within : (c : tie.Else1 Inv-loop μ-loop) → (let at-loop : tie.At-loop Inv-loop μ-loop = search in let at-start : tie.Start Inv-loop μ-loop = search in at-loop .loop .i + length (at-start .args .pattern .now) ≤ at-start .args .n)
@@ -60,8 +102,8 @@ within c =
     let a = at-start .args in
     taken-within (a .bounds) (a .pattern .now) (a .fresh .now) (at-loop .loop .inv .1) (in-loop .loop-test .taken) (c .before .stands .ensures) (at-start .pre .1) (not-false _ (c .if1 .left))
 
-add-i-2 : tie.Need-add-i-2 Inv-loop μ-loop
-add-i-2 c =
+add-i-3 : tie.Need-add-i-3 Inv-loop μ-loop
+add-i-3 c =
     let else1 : tie.Else1 Inv-loop μ-loop = search in
     let w = within else1 in omega arith
 
@@ -104,13 +146,20 @@ rewrite-spec =
     copy-one-requires
     (λ c. omega arith)
     (λ c. omega arith)
+    (λ c. omega arith)
+    (λ c. omega arith)
+    (λ c. omega arith)
+    (λ c κs. search needs)
+    copy-requires
+    add-i-2
+    loop-less
     loop-again
     (λ c. omega arith)
     (λ c. omega arith)
     (λ c. omega arith)
     is-spared-requires
     put-entry-requires
-    add-i-2
+    add-i-3
     loop-less-2
     loop-again-2
     same-length

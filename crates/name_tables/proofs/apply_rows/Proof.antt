@@ -1,14 +1,17 @@
 -- `name_tables::apply_rows` meets its contract. The loop's invariant: the rows from k on are left to be applied, and what is seen is of the text as
 -- it is. Assumes nothing.
 use mathlib.Core.Path.{_≡_, refl, sym, ap, _∙_}
+use mathlib.Core.List.{[], _∷_, map}
 use Prim.Native.Nat.{_+_, _-_, _/_, _≤_, _<_}
 use native.Mathlib.Omega.{arith}
 use lib.ListN.{length}
+use Rattle.spec.specs.Matches.{anyMatch}
 use Rattle.text.specs.Stage.{answered-ready}
-use Rattle.name_entry.specs.Sized.{staged-alike, Remaining, remaining-none, remaining-ready, remaining-more, remaining-all}
+use Rattle.text.specs.Untouched.{EntriesLeft, entries-none, entries-more, entries-all, untouched-alike}
+use Rattle.name_entry.specs.Sized.{staged-alike, Remaining, remaining-none, remaining-ready, remaining-step, remaining-all}
 use Rattle.name_entry.specs.Seen.{SeenIn, marked-seen}
-use Rattle.name_greek.specs.Rows.{rowAt, rowsFrom, rowsOf, fair-at, rows-all}
-use Rattle.name_tables.specs.Kinds.{rowRule, sizedRows, row-nowhere, rows-step, rows-end}
+use Rattle.name_greek.specs.Rows.{rowAt, rowsFrom, rowsOf, fair-at, row-next, rows-all}
+use Rattle.name_tables.specs.Kinds.{rowRule, rowMatch, sizedRows, row-fair, row-nowhere, rows-step, rows-end}
 use Rattle.name_tables.proofs.apply_rows.Statement.{statement}
 use Rattle.name_tables.proofs.apply_rows.Tie as tie
 
@@ -18,6 +21,7 @@ Inv-loop work₀ extra kind table rows done₀ seen₀ k₀ work done seen k =
     × Remaining work₀ work done₀ done extra (sizedRows extra (rowRule kind) (rowsFrom table 0 (length table / 36 - 0))) (sizedRows extra (rowRule kind) (rowsFrom table k (length table / 36 - k)))
     × SeenIn seen work done
     × (length seen ≡ 768)
+    × EntriesLeft work₀ work done₀ done (map (rowMatch kind) (rowsFrom table 0 (length table / 36 - 0))) (map (rowMatch kind) (rowsFrom table k (length table / 36 - k)))
 
 abbrev μ-loop : tie.MeasureT-loop
 μ-loop work₀ extra kind table rows done₀ seen₀ k₀ work done seen k = length table / 36 - k
@@ -30,7 +34,7 @@ mark-requires c κs =
 loop-holds : tie.Need-loop-holds Inv-loop μ-loop
 loop-holds c =
     let at-start : tie.Start Inv-loop μ-loop = search in
-    (refl, remaining-none _ (at-start .pre .0) (at-start .pre .1 .0), marked-seen (c .mark .ensures), c .mark .ensures .long)
+    (refl, remaining-none _ (at-start .pre .0) (at-start .pre .1 .0), marked-seen (c .mark .ensures), c .mark .ensures .long, entries-none)
 
 is-row-nowhere-requires : tie.Need-is-row-nowhere-requires Inv-loop μ-loop
 is-row-nowhere-requires c κs =
@@ -56,8 +60,14 @@ loop-again c =
     let a = at-start .args in let l = at-loop .loop in
     let rule = rowRule (a .kind) in let table = a .table .now in
     let rest = sizedRows (a .extra) rule (rowsFrom table (l .k + 1) (length table / 36 - (l .k + 1))) in
-    let passed = row-nowhere (a .kind) (rowAt table (l .k)) (a .extra) (remaining-ready (l .inv .1) (at-start .pre .0)) (l .inv .1 .within) (sym (c .before .is-row-nowhere .ensures) ∙ c .if1 .taken) in
-    (l .inv .0, remaining-more (l .inv .1) rest passed (λ t. rows-step (a .extra) rule table (l .k) (length table / 36) t (in-loop .loop-test .taken)), l .inv .2, l .inv .3)
+    let fair = row-fair table (l .k) (fair-at table (l .k) (at-start .pre .1 .1) (in-loop .loop-test .taken)) in
+    let passed = row-nowhere (a .kind) (rowAt table (l .k)) (a .extra) fair (remaining-ready (l .inv .1) (at-start .pre .0)) (l .inv .1 .within) (sym (c .before .is-row-nowhere .ensures) ∙ c .if1 .taken) in (
+      l .inv .0,
+      remaining-step (l .inv .1) rest (passed .0) (λ t. rows-step (a .extra) rule table (l .k) (length table / 36) t (in-loop .loop-test .taken)),
+      l .inv .2,
+      l .inv .3,
+      entries-more (rowMatch (a .kind) (rowAt table (l .k)) ∷ []) _ (l .inv .4) (ap (map (rowMatch (a .kind))) (row-next table (l .k) (length table / 36) (in-loop .loop-test .taken))) (passed .1),
+    )
 
 apply-row-requires : tie.Need-apply-row-requires Inv-loop μ-loop
 apply-row-requires c κs =
@@ -73,7 +83,7 @@ mark-requires-2 c κs =
     let at-loop : tie.At-loop Inv-loop μ-loop = search in
     let at-start : tie.Start Inv-loop μ-loop = search in
     let l = at-loop .loop in
-    (l .inv .3, answered-ready (remaining-ready (l .inv .1) (at-start .pre .0)) (at-apply-row .apply-row .ensures .staged .answered))
+    (l .inv .3, answered-ready (remaining-ready (l .inv .1) (at-start .pre .0)) (at-apply-row .apply-row .ensures .0 .staged .answered))
 
 add-k-2 : tie.Need-add-k-2 Inv-loop μ-loop
 add-k-2 c =
@@ -94,8 +104,13 @@ loop-again-2 c =
     let a = at-start .args in let l = at-loop .loop in
     let rule = rowRule (a .kind) in let table = a .table .now in
     let rest = sizedRows (a .extra) rule (rowsFrom table (l .k + 1) (length table / 36 - (l .k + 1))) in
-    let e = at-apply-row .apply-row .ensures in
-    (e .staged .answered .long ∙ l .inv .0, remaining-more (l .inv .1) rest e (λ t. rows-step (a .extra) rule table (l .k) (length table / 36) t (in-loop .loop-test .taken)), marked-seen (c .mark2 .ensures), c .mark2 .ensures .long ∙ l .inv .3)
+    let e = at-apply-row .apply-row .ensures in (
+      e .0 .staged .answered .long ∙ l .inv .0,
+      remaining-step (l .inv .1) rest (e .0) (λ t. rows-step (a .extra) rule table (l .k) (length table / 36) t (in-loop .loop-test .taken)),
+      marked-seen (c .mark2 .ensures),
+      c .mark2 .ensures .long ∙ l .inv .3,
+      entries-more (rowMatch (a .kind) (rowAt table (l .k)) ∷ []) _ (l .inv .4) (ap (map (rowMatch (a .kind))) (row-next table (l .k) (length table / 36) (in-loop .loop-test .taken))) (e .1),
+    )
 
 same-length : tie.Need-same-length Inv-loop μ-loop
 same-length c = c .before .loop .inv .0
@@ -105,8 +120,10 @@ returns c =
     let at-start : tie.Start Inv-loop μ-loop = search in
     let a = at-start .args in let l = c .before .loop in
     let rule = rowRule (a .kind) in let table = a .table .now in
-    let r = remaining-all (l .inv .1) (λ s. rows-end (a .extra) rule table (l .k) (length table / 36) s (omega arith)) in
-    record { staged = staged-alike (sizedRows (a .extra) rule (rowsOf table)) (λ s. ap (λ rs. sizedRows (a .extra) rule rs s) (rows-all table)) (r .staged); within = r .within }
+    let r = remaining-all (l .inv .1) (λ s. rows-end (a .extra) rule table (l .k) (length table / 36) s (omega arith)) in (
+      record { staged = staged-alike (sizedRows (a .extra) rule (rowsOf table)) (λ s. ap (λ rs. sizedRows (a .extra) rule rs s) (rows-all table)) (r .staged); within = r .within },
+      untouched-alike (λ s none. ap (λ rs. anyMatch (map (rowMatch (a .kind)) rs) s) (rows-all table) ∙ none) (entries-all (l .inv .4)),
+    )
 
 pub apply-rows-spec : {M : Type 1} → statement M
 apply-rows-spec =

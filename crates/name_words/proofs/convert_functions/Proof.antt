@@ -15,7 +15,9 @@ apply-rows-requires c κs = (c .before .before .before .pre, (within-none (c .be
 
 returns : tie.Need-returns
 unfolding rowsOf
-returns c = staged-alike (replaceRows functionMappings) (λ s. rows-replaced functionMappings s) (c .before .before .apply-rows .ensures .staged)
+returns c =
+    let at-apply-rows = c .before .before in
+    (staged-alike (replaceRows functionMappings) (λ s. rows-replaced functionMappings s) (at-apply-rows .apply-rows .ensures .0 .staged), at-apply-rows .apply-rows .ensures .1)
 
 pub convert-functions-spec : {M : Type 1} → statement M
 convert-functions-spec = tie.close (tie.spec (λ c. search needs) apply-rows-requires (λ c. search needs) returns)

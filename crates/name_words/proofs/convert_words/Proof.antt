@@ -1,11 +1,15 @@
 -- `name_words::convert_words` meets its contract: between holding out and putting back, the rows are those of the two tables. Assumes nothing.
 use mathlib.Core.Path.{refl, ap}
+use mathlib.Core.List.{[], _∷_, _++_, map}
 use Rattle.spec.specs.Held.{holdBoth}
+use Rattle.spec.specs.Rows.{greekLetters, wordMappings}
 use Rattle.spec.specs.Words.{convertWords}
+use Rattle.spec.specs.Matches.{greekMatch, wordOrLiteralMatch, textOpening, romanOpening}
 use Rattle.text_symbols.specs.Parts.{part}
 use Rattle.text.specs.Stage.{shown}
+use Rattle.text.specs.Untouched.{untouched-then}
 use Rattle.held_stages.specs.Outside.{holdable}
-use Rattle.held_stages.specs.Carried.{carries-staged, outside-answered}
+use Rattle.held_stages.specs.Carried.{carries-staged, outside-answered, both-unused, outside-untouched}
 use Rattle.name_greek.specs.Rows.{rowsOf, fairTable}
 use Rattle.name_words.specs.Outside.{heldBoth, words-held, words-kept, words-by-held, within-then}
 use borrow.Author.Needs.{needs}
@@ -33,10 +37,10 @@ put-all-back-requires c κs =
     let at-text : tie.After-text = search in
     let at-start : tie.Start = search in
     let a = at-start .args in
-    let from = at-hold-both .hold-both .ensures in
+    let from = at-hold-both .hold-both .ensures .0 in
     let source = part (at-text .text .given .0 .0) (at-text .text .given .0 .1 .0) (a .work .now) in
     let kept = words-kept (at-hold-both .hold-both .result .extra) (holdBoth source) (from .extra) (from .well-made) in
-    let staged = within-then (at-apply-rows .apply-rows .ensures) (c .before .before .before .apply-rows2 .ensures) in
+    let staged = within-then (at-apply-rows .apply-rows .ensures .0) (c .before .before .before .apply-rows2 .ensures .0) in
     record { held = holdBoth source; carries = carries-staged from staged kept }
 
 returns-2 : tie.Need-returns-2
@@ -48,12 +52,17 @@ returns-2 c =
     let at-text : tie.After-text = search in
     let at-start : tie.Start = search in
     let a = at-start .args in
-    let from = at-hold-both .hold-both .ensures in
+    let from = at-hold-both .hold-both .ensures .0 in
     let source = part (at-text .text .given .0 .0) (at-text .text .given .0 .1 .0) (a .work .now) in
     let kept = words-kept (at-hold-both .hold-both .result .extra) (holdBoth source) (from .extra) (from .well-made) in
-    let staged = within-then (at-apply-rows .apply-rows .ensures) (at-apply-rows2 .apply-rows2 .ensures) in
-    outside-answered from staged kept heldBoth (words-held (at-hold-both .hold-both .result .extra) (holdBoth source) (from .extra) (from .well-made))
-    (ap (λ q. shown q (a .work .now)) (at-text .text .given .1)) (c .before .before .put-all-back .ensures (holdBoth source) (carries-staged from staged kept)) convertWords (words-by-held source)
+    let staged = within-then (at-apply-rows .apply-rows .ensures .0) (at-apply-rows2 .apply-rows2 .ensures .0) in
+    let back = c .before .before .put-all-back .ensures in
+    let untouched = untouched-then (map greekMatch greekLetters) (map wordOrLiteralMatch wordMappings) (at-apply-rows .apply-rows .ensures .1) (at-apply-rows2 .apply-rows2 .ensures .1) in (
+      outside-answered from staged kept heldBoth (words-held (at-hold-both .hold-both .result .extra) (holdBoth source) (from .extra) (from .well-made))
+          (ap (λ q. shown q (a .work .now)) (at-text .text .given .1)) (back .0 (holdBoth source) (carries-staged from staged kept)) convertWords (words-by-held source),
+      outside-untouched (textOpening ∷ (romanOpening ∷ [])) (map greekMatch greekLetters ++ map wordOrLiteralMatch wordMappings) (at-text .text .given .1) (at-hold-both .hold-both .ensures .1) untouched
+          (both-unused source from) (back .1),
+    )
 
 pub convert-words-spec : {M : Type 1} → statement M
 convert-words-spec =

@@ -1,5 +1,7 @@
 -- `pattern_rewriting::convert_sqrt` meets its contract. Assumes nothing.
+use Rattle.spec.specs.Symbols.{bytes}
 use Rattle.spec.specs.Words.{convertSqrt}
+use Rattle.text.specs.Untouched.{untouched-contains}
 use native.Mathlib.Omega.{arith}
 use borrow.Author.Needs.{needs}
 use Rattle.pattern_rewriting.proofs.convert_sqrt.Statement.{statement}
@@ -12,7 +14,7 @@ convert-pattern-requires c κs =
 
 returns : tie.Need-returns
 unfolding convertSqrt
-returns c = c .before .before .convert-pattern .ensures
+returns c = let applied = c .before .before .convert-pattern .ensures in (applied .0, untouched-contains (bytes "sqrt(") (applied .1))
 
 pub convert-sqrt-spec : {M : Type 1} → statement M
 convert-sqrt-spec =

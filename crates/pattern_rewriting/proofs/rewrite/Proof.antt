@@ -1,8 +1,8 @@
 -- `pattern_rewriting::rewrite` meets its contract. The loop's invariant is that of a sweep, at place i. Assumes nothing.
 use Rattle.spec.specs.Result.{mostSymbols}
-use Rattle.pattern_rewriting.specs.Edits.{EditFits, patternRule}
+use Rattle.pattern_rewriting.specs.Edits.{EditFits, patternRule, rule-waits}
 use Rattle.pattern_rewriting.specs.Turns.{edit-fits, edit-within, written-here, copied-here}
-use Rattle.text.specs.Sweep.{Sweeping, restFrom, sweeping-none, sweeping-all, symbols-apart, turn-room, one-room}
+use Rattle.text.specs.Sweep.{Sweeping, restFrom, sweeping-none, sweeping-all, symbols-apart, gap-within, gap-room, sweeping-gap, turn-room, one-room}
 use lib.ListN.{length-take, length-drop}
 use mathlib.Core.Path.{_≡_, refl}
 use Prim.Native.Nat.{_+_, _-_, _≤_}
@@ -30,13 +30,55 @@ copy-one-requires c κs =
     let at-loop : tie.At-loop Inv-loop μ-loop = search in
     one-room (at-loop .loop .inv .1) (omega arith)
 
-loop-again : tie.Need-loop-again Inv-loop μ-loop
-loop-again c =
+-- a symbol is copied, and then what stands before the pattern
+copy-requires : tie.Need-copy-requires Inv-loop μ-loop
+copy-requires c κs =
+    let at-gap : tie.After-gap Inv-loop μ-loop = search in
+    let at-copy-one : tie.After-copy-one Inv-loop μ-loop = search in
     let at-enum-told : tie.After-enum-told Inv-loop μ-loop = search in
     let at-edit-at : tie.After-edit-at Inv-loop μ-loop = search in
+    let in-loop : tie.In-loop Inv-loop μ-loop = search in
     let at-loop : tie.At-loop Inv-loop μ-loop = search in
     let at-start : tie.Start Inv-loop μ-loop = search in
-    (refl, copied-here (at-loop .loop .inv .1) (omega arith) (at-edit-at .edit-at .ensures (at-start .args .left .now)) (at-enum-told .enum-told .given .1) (c .before .before .copy-one .ensures))
+    let a = at-start .args in let more = in-loop .loop-test .taken in
+    let copied = copied-here (at-loop .loop .inv .1) more (at-edit-at .edit-at .ensures (a .left .now)) (at-enum-told .enum-told .given .1) (at-copy-one .copy-one .ensures) in
+    gap-room copied (at-gap .gap .ensures) (omega arith)
+
+within-gap : (c : tie.After-gap Inv-loop μ-loop) → (let at-loop : tie.At-loop Inv-loop μ-loop = search in let at-start : tie.Start Inv-loop μ-loop = search in at-loop .loop .i + 1 + c .gap .result ≤ at-start .args .n)
+within-gap c =
+    let at-copy-one : tie.After-copy-one Inv-loop μ-loop = search in
+    let at-enum-told : tie.After-enum-told Inv-loop μ-loop = search in
+    let at-edit-at : tie.After-edit-at Inv-loop μ-loop = search in
+    let in-loop : tie.In-loop Inv-loop μ-loop = search in
+    let at-loop : tie.At-loop Inv-loop μ-loop = search in
+    let at-start : tie.Start Inv-loop μ-loop = search in
+    let a = at-start .args in let more = in-loop .loop-test .taken in
+    let copied = copied-here (at-loop .loop .inv .1) more (at-edit-at .edit-at .ensures (a .left .now)) (at-enum-told .enum-told .given .1) (at-copy-one .copy-one .ensures) in
+    gap-within copied (c .gap .ensures) (omega arith)
+
+add-i-2 : tie.Need-add-i-2 Inv-loop μ-loop
+add-i-2 c =
+    let at-gap : tie.After-gap Inv-loop μ-loop = search in
+    let at-loop : tie.At-loop Inv-loop μ-loop = search in
+    let h = within-gap at-gap in let short = at-loop .loop .inv .1 .regions .short in omega arith
+
+loop-less : tie.Need-loop-less Inv-loop μ-loop
+loop-less c =
+    let at-gap : tie.After-gap Inv-loop μ-loop = search in
+    let h = within-gap at-gap in omega arith
+
+loop-again : tie.Need-loop-again Inv-loop μ-loop
+loop-again c =
+    let at-gap : tie.After-gap Inv-loop μ-loop = search in
+    let at-copy-one : tie.After-copy-one Inv-loop μ-loop = search in
+    let at-enum-told : tie.After-enum-told Inv-loop μ-loop = search in
+    let at-edit-at : tie.After-edit-at Inv-loop μ-loop = search in
+    let in-loop : tie.In-loop Inv-loop μ-loop = search in
+    let at-loop : tie.At-loop Inv-loop μ-loop = search in
+    let at-start : tie.Start Inv-loop μ-loop = search in
+    let a = at-start .args in let more = in-loop .loop-test .taken in
+    let copied = copied-here (at-loop .loop .inv .1) more (at-edit-at .edit-at .ensures (a .left .now)) (at-enum-told .enum-told .given .1) (at-copy-one .copy-one .ensures) in
+    (refl, sweeping-gap copied (at-gap .gap .ensures) (omega arith) (rule-waits (a .kind) (a .pattern .now) (a .left .now)) (c .before .before .copy .ensures))
 
 -- the symbols that an edit takes and keeps
 fits :
@@ -74,10 +116,11 @@ put-edit-requires c κs =
       (omega arith, symbols-apart sweeping (at-loop .loop .i + span .start) (span .end - span .start) (omega arith)),
     )
 
-add-i-2 : tie.Need-add-i-2 Inv-loop μ-loop
-add-i-2 c =
+add-i-3 : tie.Need-add-i-3 Inv-loop μ-loop
+add-i-3 c =
     let at-span : tie.After-span Inv-loop μ-loop = search in
-    let f = fits at-span in omega arith
+    let at-start : tie.Start Inv-loop μ-loop = search in
+    let f = fits at-span in let short = at-start .pre .0 .short in omega arith
 
 loop-less-2 : tie.Need-loop-less-2 Inv-loop μ-loop
 loop-less-2 c =
@@ -117,12 +160,19 @@ rewrite-spec =
     copy-one-requires
     (λ c. omega arith)
     (λ c. omega arith)
+    (λ c. omega arith)
+    (λ c. omega arith)
+    (λ c. omega arith)
+    (λ c κs. search needs)
+    copy-requires
+    add-i-2
+    loop-less
     loop-again
     add-inside
     add-put-edit
     sub-put-edit
     put-edit-requires
-    add-i-2
+    add-i-3
     loop-less-2
     loop-again-2
     same-length

@@ -9,7 +9,8 @@ use Rattle.scripts.proofs.wrap_text_subscripts.Tie as tie
 returns : tie.Need-returns
 returns c =
     let at-start : tie.Start = search in
-    staged-by (wrapTextSubscripts (at-start .args .sign)) (wrap-text-same (at-start .args .sign)) (c .before .before .convert-pattern .ensures)
+    let applied = c .before .before .convert-pattern .ensures in
+    (staged-by (wrapTextSubscripts (at-start .args .sign)) (wrap-text-same (at-start .args .sign)) (applied .0), applied .1)
 
 pub wrap-text-subscripts-spec : {M : Type 1} → statement M
 wrap-text-subscripts-spec =

@@ -1,21 +1,22 @@
 -- Laws of sweeps.
 --     swept          the rest of a sweep, from place i on
+--     swept-copied   some symbols are copied, and then the rest of it
 --     sweep-same     two rules that agree at every place give the same text
 --     sweep-absent   a rule that copies wherever its pattern does not start leaves a text without the pattern as it is
 --     reached-absent and comes to no place where a test holds that waits for the pattern too
 -- Assumes nothing.
-use mathlib.Core.Path.{_≡_, refl, ap, ap₂, _∙_}
+use mathlib.Core.Path.{_≡_, refl, sym, ap, ap₂, _∙_, subst}
 use mathlib.Core.Bool.{Bool, false, _||_}
 use mathlib.Core.List.{List, [], _∷_, _++_}
 use mathlib.Core.Option.{none}
 use Prim.Native.Nat.{ℕ, zero, suc, _+_, _<_, _≤_}
-use native.Mathlib.Nat.{add-suc, not-suc-le-zero}
+use native.Mathlib.Nat.{add-zero, add-suc, not-suc-le-zero}
 use native.Mathlib.Omega.{arith}
-use lib.ListN.{length, getD, drop, length-drop, drop-of-length-le}
+use lib.ListN.{length, getD, take, drop, length-drop, drop-of-length-le}
 use lib.Seq.{drop-drop, getD-drop}
 use Rattle.spec.specs.Symbols.{starts, find}
 use Rattle.spec.specs.Sweep.{Turn, Rule, kept, sweep, reached}
-use Rattle.spec.specs.Laws.Symbols.{find-nowhere}
+use Rattle.spec.specs.Laws.Symbols.{drop-step, find-nowhere}
 
 unfoldable pub swept : Rule → List ℕ → ℕ → List ℕ
 swept rule s i = sweep rule (getD (0 ∷ s) i 0) 0 (drop i s)
@@ -47,6 +48,20 @@ swept-turn rule s i inside {t} e =
 pub swept-end : (rule : Rule) (s : List ℕ) (i : ℕ) → length s ≤ i → swept rule s i ≡ []
 unfolding sweep swept
 swept-end rule s i h = rw (drop-of-length-le s h)
+
+-- k symbols from place i on are copied
+pub swept-copied :
+    (rule : Rule) (s : List ℕ) (i k : ℕ) → i + k ≤ length s → ((j : ℕ) → j < k → rule (getD (0 ∷ s) (i + j) 0) (drop (i + j) s) ≡ kept (drop (i + j) s))
+    → swept rule s i ≡ take k (drop i s) ++ swept rule s (i + k)
+swept-copied rule s i zero h copies = let n : i ≡ i + zero = omega arith in ap (swept rule s) n
+swept-copied rule s i (suc k) h copies =
+    let here = subst (λ m. rule (getD (0 ∷ s) m 0) (drop m s) ≡ kept (drop m s)) (add-zero i) (copies 0 (omega arith)) in
+    let one : take 1 (drop i s) ≡ getD s i 0 ∷ [] = ap (take 1) (drop-step s i (omega arith)) in
+    let next : i + 1 + 0 ≡ i + 1 = omega arith in
+    let end : i + 1 + k ≡ i + suc k = omega arith in
+    swept-turn rule s i (omega arith) here
+    ∙ ap₂ _++_ one (ap (swept rule s) next ∙ swept-copied rule s (i + 1) k (omega arith) (λ j l. let n : i + suc j ≡ i + 1 + j = omega arith in subst (λ m. rule (getD (0 ∷ s) m 0) (drop m s) ≡ kept (drop m s)) n (copies (suc j) (omega arith))))
+    ∙ ap₂ (λ l m. l ++ swept rule s m) (ap (λ t. take (suc k) t) (sym (drop-step s i (omega arith)))) end
 
 pub sweep-same :
     (r r′ : Rule) (n : ℕ) → ((before : ℕ) (s : List ℕ) → length s ≤ n → r before s ≡ r′ before s)

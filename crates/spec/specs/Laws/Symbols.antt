@@ -11,7 +11,7 @@ use lib.Dec.{eqb, leb}
 use lib.ListN.{length, getD, take, drop, length-append, length-drop, length-reverse, take-append-drop, drop-of-length-le}
 use lib.Seq.{drop-cons, take-at, take-append-seam}
 use borrow.Author.Tests.{leb-true, eqb-true, eq-eqb, ne-eqb}
-use Rattle.spec.specs.Symbols.{digit, head, past, all, any, until, dropWhile, starts, contains, find}
+use Rattle.spec.specs.Symbols.{digit, isSome, head, past, all, any, until, dropWhile, starts, contains, find}
 use Rattle.spec.specs.Laws.Booleans.{untrue, and-left, and-right, and-parts}
 
 -- ---- digits
@@ -126,11 +126,6 @@ find-starts w (x ∷ s) at e = go (starts w (x ∷ s)) refl (find-starts w s at)
         → _≡_ {A = Option (List ℕ)} (elim t [ true ↦ some (x ∷ s) | false ↦ find w s ]) (some at) → starts w at ≡ true
     go true b later e = let same : x ∷ s ≡ at = cc in ap (starts w) (sym same) ∙ b
     go false b later e = later e
-
--- whether it is found
-abbrev pub isSome : Option (List ℕ) → Bool
-isSome none = false
-isSome (some s) = true
 
 pub contains-find : (w s : List ℕ) → isSome (find w s) ≡ contains w s
 unfolding find

@@ -18,11 +18,13 @@ returns-2 : tie.Need-returns-2
 returns-2 c =
     let at-apply-definitions-outside-text = c .before .before in
     let at-start : tie.Start = search in
-    at-apply-definitions-outside-text .apply-definitions-outside-text .ensures (definitionsOr (at-start .args .table .now))
-    (fit-sound (at-start .args .work .now) (at-apply-definitions-outside-text .before .before .enum-told .given .1) (at-start .pre .1))
+    let ds = definitionsOr (at-start .args .table .now) in
+    let sound = fit-sound (at-start .args .work .now) (at-apply-definitions-outside-text .before .before .enum-told .given .1) (at-start .pre .1) in
+    let applied = at-apply-definitions-outside-text .apply-definitions-outside-text .ensures in
+    (applied .0 ds sound, applied .1 ds sound)
 
 same-length : tie.Need-same-length
-same-length c = returns-2 c .long
+same-length c = returns-2 c .0 .long
 
 pub apply-definitions-outside-text-spec : {M : Type 1} → statement M
 apply-definitions-outside-text-spec =

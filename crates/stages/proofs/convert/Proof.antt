@@ -41,7 +41,7 @@ apply-definitions-outside-text-requires c κs =
     let at-mark-solidus : tie.After-mark-solidus = search in
     let at-start : tie.Start = search in
     let first =
-    first-stages (at-mark-solidus .mark-solidus .ensures) (at-convert-op .convert-op .ensures) (at-convert-cases .convert-cases .ensures) (at-convert-attach .convert-attach .ensures .0)
+    first-stages (at-mark-solidus .mark-solidus .ensures .0) (at-convert-op .convert-op .ensures) (at-convert-cases .convert-cases .ensures) (at-convert-attach .convert-attach .ensures .0)
     (at-convert-bb .convert-bb .ensures) (at-convert-bold .convert-bold .ensures) (at-convert-binom .convert-binom .ensures) (at-convert-upright .convert-upright .ensures)
     (at-convert-floor-ceil-abs .convert-floor-ceil-abs .ensures) (at-convert-text-quotes .convert-text-quotes .ensures) in
     (answered-ready (at-start .pre .0) first, fit-after before-definitions-passes first (at-start .pre .1))
@@ -50,7 +50,7 @@ convert-syntax-requires : tie.Need-convert-syntax-requires
 convert-syntax-requires c κs =
     let s11 = c .before .before .before in
     let asked = apply-definitions-outside-text-requires (s11 .before) (κs .0, (κs .0, tt)) in
-    let applied = s11 .apply-definitions-outside-text .ensures in
+    let applied = s11 .apply-definitions-outside-text .ensures .0 in
     (answered-ready (asked .0) applied, bare-after (outside-passes _) applied (asked .1 .bare))
 
 convert-alignment-requires : tie.Need-convert-alignment-requires
@@ -61,7 +61,7 @@ convert-alignment-requires c κs =
 drop-thin-space-after-commands-requires : tie.Need-drop-thin-space-after-commands-requires
 drop-thin-space-after-commands-requires c κs =
     let at-convert-alignment-arg : tie.After-convert-alignment-arg = search in
-    staged-ready (convert-alignment-requires at-convert-alignment-arg κs) (c .before .before .before .convert-alignment .ensures)
+    staged-ready (convert-alignment-requires at-convert-alignment-arg κs) (c .before .before .before .convert-alignment .ensures .0)
 
 -- the farthest place, which `search` does not see behind so many others
 abbrev solidus-marked : tie.After-convert-op → tie.After-mark-solidus
@@ -87,9 +87,9 @@ returns c =
     answered-then
     (answered-then
     (answered-then
-    (answered-then (first-stages (at-mark-solidus .mark-solidus .ensures) (at-convert-op .convert-op .ensures) (at-convert-cases .convert-cases .ensures) (at-convert-attach .convert-attach .ensures .0) (at-convert-bb .convert-bb .ensures) (at-convert-bold .convert-bold .ensures) (at-convert-binom .convert-binom .ensures) (at-convert-upright .convert-upright .ensures) (at-convert-floor-ceil-abs .convert-floor-ceil-abs .ensures) (at-convert-text-quotes .convert-text-quotes .ensures)) (at-apply-definitions-outside-text .apply-definitions-outside-text .ensures))
+    (answered-then (first-stages (at-mark-solidus .mark-solidus .ensures .0) (at-convert-op .convert-op .ensures) (at-convert-cases .convert-cases .ensures) (at-convert-attach .convert-attach .ensures .0) (at-convert-bb .convert-bb .ensures) (at-convert-bold .convert-bold .ensures) (at-convert-binom .convert-binom .ensures) (at-convert-upright .convert-upright .ensures) (at-convert-floor-ceil-abs .convert-floor-ceil-abs .ensures) (at-convert-text-quotes .convert-text-quotes .ensures)) (at-apply-definitions-outside-text .apply-definitions-outside-text .ensures .0))
     (at-convert-syntax .convert-syntax .ensures))
-    (at-convert-alignment .convert-alignment .ensures .answered))
+    (at-convert-alignment .convert-alignment .ensures .0 .answered))
     (at-drop-thin-space-after-commands .drop-thin-space-after-commands .ensures .answered)
 
 same-length : tie.Need-same-length

@@ -13,7 +13,7 @@ convert-words-requires c κs =
     let at-convert-operators = c .before .before .before in
     let at-convert-functions : tie.After-convert-functions = search in
     let at-convert-sqrt : tie.After-convert-sqrt = search in
-    (search needs, unmarked-after before-words-passes (stages-before-words (at-convert-sqrt .convert-sqrt .ensures) (at-convert-functions .convert-functions .ensures) (at-convert-operators .convert-operators .ensures)) (at-convert-sqrt .before .before .before .pre .1))
+    (search needs, unmarked-after before-words-passes (stages-before-words (at-convert-sqrt .convert-sqrt .ensures .0) (at-convert-functions .convert-functions .ensures .0) (at-convert-operators .convert-operators .ensures .0)) (at-convert-sqrt .before .before .before .pre .1))
 
 convert-superscripts-requires : tie.Need-convert-superscripts-requires
 convert-superscripts-requires c κs = search needs
@@ -21,7 +21,7 @@ convert-superscripts-requires c κs = search needs
 convert-fractions-requires : tie.Need-convert-fractions-requires
 convert-fractions-requires c κs =
     let at-convert-superscripts-arg : tie.After-convert-superscripts-arg = search in
-    staged-ready (convert-superscripts-requires at-convert-superscripts-arg κs) (c .before .before .before .convert-superscripts .ensures)
+    staged-ready (convert-superscripts-requires at-convert-superscripts-arg κs) (c .before .before .before .convert-superscripts .ensures .0)
 
 unmark-solidus-requires : tie.Need-unmark-solidus-requires
 unmark-solidus-requires c κs =
@@ -31,7 +31,7 @@ unmark-solidus-requires c κs =
 escape-set-braces-requires : tie.Need-escape-set-braces-requires
 escape-set-braces-requires c κs =
     let at-unmark-solidus-arg : tie.After-unmark-solidus-arg = search in
-    staged-ready (unmark-solidus-requires at-unmark-solidus-arg κs) (c .before .before .before .unmark-solidus .ensures)
+    staged-ready (unmark-solidus-requires at-unmark-solidus-arg κs) (c .before .before .before .unmark-solidus .ensures .0)
 
 convert-lr-requires : tie.Need-convert-lr-requires
 convert-lr-requires c κs =
@@ -73,16 +73,16 @@ returns c =
     (answered-then
     (answered-then
     (answered-then
-    (answered-then (stages-before-words (at-convert-sqrt .convert-sqrt .ensures) (at-convert-functions .convert-functions .ensures) (at-convert-operators .convert-operators .ensures)) (at-convert-words .convert-words .ensures))
-    (at-convert-greek-capitals .convert-greek-capitals .ensures .answered))
-    (at-convert-subscripts .convert-subscripts .ensures .answered))
-    (at-convert-superscripts .convert-superscripts .ensures .answered))
+    (answered-then (stages-before-words (at-convert-sqrt .convert-sqrt .ensures .0) (at-convert-functions .convert-functions .ensures .0) (at-convert-operators .convert-operators .ensures .0)) (at-convert-words .convert-words .ensures .0))
+    (at-convert-greek-capitals .convert-greek-capitals .ensures .0 .answered))
+    (at-convert-subscripts .convert-subscripts .ensures .0 .answered))
+    (at-convert-superscripts .convert-superscripts .ensures .0 .answered))
     (at-convert-fractions .convert-fractions .ensures .answered))
-    (at-unmark-solidus .unmark-solidus .ensures .answered))
+    (at-unmark-solidus .unmark-solidus .ensures .0 .answered))
     (at-escape-set-braces .escape-set-braces .ensures .answered))
     (at-convert-lr .convert-lr .ensures .answered))
     (at-size-delimiters-to-content .size-delimiters-to-content .ensures .answered))
-    (at-escape-percent .escape-percent .ensures .answered)
+    (at-escape-percent .escape-percent .ensures .0 .answered)
 
 same-length : tie.Need-same-length
 same-length c = returns c .long

@@ -1,10 +1,15 @@
 -- `layout::alignment::convert_alignment` meets its contract, by what the text has. Assumes nothing.
 use Rattle.layout.specs.Aligned.{linedTo, align-some, align-breaks, align-none, lined-whole}
 use Rattle.spec.specs.Finish.{hasAlignment, hasLineBreaks, convertAlignment}
+use Rattle.spec.specs.Matches.{anyMatch}
+use Rattle.spec.specs.Laws.Booleans.{or-left, or-right}
 use Rattle.text_symbols.specs.Parts.{part, length-part, whole-part}
 use Rattle.text.specs.Stage.{placed-fits, placed-low, placed-regions, staged-same, staged-written}
 use Rattle.text.specs.Written.{appended-written}
-use mathlib.Core.Path.{sym, ap, _∙_}
+use Rattle.text.specs.Untouched.{untouched-matched}
+use mathlib.Core.Path.{refl, sym, ap, _∙_}
+use mathlib.Core.Bool.{false}
+use mathlib.Core.List.{[], _∷_}
 use native.Mathlib.Omega.{arith}
 use borrow.Author.Needs.{needs}
 use Rattle.layout.proofs.alignment.convert_alignment.Statement.{statement}
@@ -40,7 +45,10 @@ returns-2 c =
     let t = at-text .text .given in
     let text = part (t .0 .0) (t .0 .1 .0) (at-start .args .work .now) in
     let has = ap hasAlignment (sym (whole-part (t .0 .0) (t .0 .1 .0) (at-start .args .work .now))) ∙ sym (at-has-alignment .has-alignment .ensures) ∙ then1 .if1 .taken in
-    staged-written (at-start .pre) (t .1) convertAlignment (appended-written (c .before .before .before .put-aligned .ensures .appended) (placed-regions (at-start .pre) (t .1) .region)) (align-some text has) (c .finished .ensures)
+    let regions = placed-regions (at-start .pre) (t .1) in (
+      staged-written (at-start .pre) (t .1) convertAlignment (appended-written (c .before .before .before .put-aligned .ensures .appended) (regions .region)) (align-some text has) (c .finished .ensures),
+      untouched-matched (t .1) (or-left (anyMatch (hasLineBreaks ∷ []) text) has),
+    )
 
 part-has-line-breaks-end : tie.Need-part-has-line-breaks-end
 part-has-line-breaks-end c =
@@ -69,9 +77,11 @@ returns-3 c =
     let regions = placed-regions (at-start .pre) (t .1) in
     let plain = ap hasAlignment (sym same) ∙ sym (at-has-alignment .has-alignment .ensures) ∙ else1 .if1 .left in
     let has = ap hasLineBreaks (sym same) ∙ sym (at-has-line-breaks .has-line-breaks .ensures) ∙ then2 .if2 .taken in
-    let whole = linedTo text (t .0 .1 .0) 0 in
-    staged-written (at-start .pre) (t .1) {t = whole} convertAlignment (appended-written {out = whole} (c .before .before .before .put-lines .ensures .appended) (regions .region))
-    (align-breaks text plain has ∙ sym (lined-whole text (t .0 .1 .0) (length-part (t .0 .0) (t .0 .1 .0) w (regions .source)))) (c .finished2 .ensures)
+    let whole = linedTo text (t .0 .1 .0) 0 in (
+      staged-written (at-start .pre) (t .1) {t = whole} convertAlignment (appended-written {out = whole} (c .before .before .before .put-lines .ensures .appended) (regions .region))
+          (align-breaks text plain has ∙ sym (lined-whole text (t .0 .1 .0) (length-part (t .0 .0) (t .0 .1 .0) w (regions .source)))) (c .finished2 .ensures),
+      untouched-matched (t .1) (or-right (hasAlignment text) (anyMatch (hasLineBreaks ∷ []) text) (or-left false has)),
+    )
 
 returns-4 : tie.Need-returns-4
 returns-4 c =
@@ -85,7 +95,7 @@ returns-4 c =
     let same = whole-part (t .0 .0) (t .0 .1 .0) w in
     let plain = ap hasAlignment (sym same) ∙ sym (at-has-alignment .has-alignment .ensures) ∙ else1 .if1 .left in
     let smooth = ap hasLineBreaks (sym same) ∙ sym (c .before .has-line-breaks .ensures) ∙ c .if2 .left in
-    staged-same (at-start .pre) (t .1) convertAlignment (align-none text plain smooth)
+    (staged-same (at-start .pre) (t .1) convertAlignment (align-none text plain smooth), record { stays = λ none. (refl, sym (t .1)) })
 
 pub convert-alignment-spec : {M : Type 1} → statement M
 convert-alignment-spec =

@@ -1,5 +1,5 @@
 -- `pattern_rewriting::rules::edit_at` meets its contract, by the rule of each kind. Assumes nothing.
-use Rattle.pattern_rewriting.specs.Edits.{Edited, PatternMet, patternRule, edited-not}
+use Rattle.pattern_rewriting.specs.Edits.{Edited, PatternMet, edited-not}
 use borrow.Author.Tests.{not-true, not-false}
 use mathlib.Core.Path.{sym, _∙_, subst}
 use borrow.Author.Needs.{needs}
@@ -33,25 +33,25 @@ returns-2 : tie.Need-returns-2
 returns-2 c =
     let at-start : tie.Start = search in
     let a = at-start .args in
-    λ left. subst (λ k. Edited (patternRule k (a .pattern .now) left) left (a .s .now) (c .literal .result)) (sym (c .before .enum-told .given .1)) (c .literal .ensures left)
+    λ left. subst (λ k. Edited k (a .pattern .now) left (a .s .now) (c .literal .result)) (sym (c .before .enum-told .given .1)) (c .literal .ensures left)
 
 returns-3 : tie.Need-returns-3
 returns-3 c =
     let at-start : tie.Start = search in
     let a = at-start .args in
-    λ left. subst (λ k. Edited (patternRule k (a .pattern .now) left) left (a .s .now) (c .paren-to-brace .result)) (sym (c .before .enum-told2 .given .1)) (c .paren-to-brace .ensures left)
+    λ left. subst (λ k. Edited k (a .pattern .now) left (a .s .now) (c .paren-to-brace .result)) (sym (c .before .enum-told2 .given .1)) (c .paren-to-brace .ensures left)
 
 returns-4 : tie.Need-returns-4
 returns-4 c =
     let at-start : tie.Start = search in
     let a = at-start .args in
-    λ left. subst (λ k. Edited (patternRule k (a .pattern .now) left) left (a .s .now) (c .wrap-text .result)) (sym (c .before .enum-told3 .given .1)) (c .wrap-text .ensures left)
+    λ left. subst (λ k. Edited k (a .pattern .now) left (a .s .now) (c .wrap-text .result)) (sym (c .before .enum-told3 .given .1)) (c .wrap-text .ensures left)
 
 returns-5 : tie.Need-returns-5
 returns-5 c =
     let at-start : tie.Start = search in
     let a = at-start .args in
-    λ left. subst (λ k. Edited (patternRule k (a .pattern .now) left) left (a .s .now) (c .wrap-multichar .result)) (sym (c .before .enum-told4 .given .1)) (c .wrap-multichar .ensures left)
+    λ left. subst (λ k. Edited k (a .pattern .now) left (a .s .now) (c .wrap-multichar .result)) (sym (c .before .enum-told4 .given .1)) (c .wrap-multichar .ensures left)
 
 pub edit-at-spec : {M : Type 1} → statement M
 edit-at-spec =
