@@ -39,7 +39,7 @@ enum jistranu_answer {
     JISTRANU_FAULTY_TABLE = 3,   /* the definition table is too long, is cut off, or has a bad or repeated name or bad LaTeX */
     JISTRANU_NARROW_WORK = 4,    /* the work buffer has less than 32,768 bytes */
     JISTRANU_OVERGROWN = 5,      /* the text grows above 8,192 symbols on its way to LaTeX */
-    JISTRANU_LOST_BLOCK = 6,     /* a piece of quoted text would be lost, as in upright(a "b") */
+    JISTRANU_LOST_BLOCK = 6,     /* kept, so that the others keep their numbers; no call answers it */
     JISTRANU_UNSETTLED = 7,      /* more than 64 fractions stand one within the other */
     JISTRANU_BARE_DELIMITER = 8, /* lr encloses a delimiter and nothing else, as in lr(|) */
     JISTRANU_BARRED_SOLIDUS = 9, /* a denominator within bars holds an escaped slash, as in a/abs(b \/ c) */

@@ -1,7 +1,7 @@
 //! The cross-check: the judge's answers against what the unchanged functions of `math_conv.rs` really do.
 
 use super::definitions::{one_order, DEFINITIONS_MARK};
-use super::judge::{self, refused_before_stages, typst_to_latex, Case, Stages, Trouble};
+use super::judge::{self, refused_before_stages, typst_to_latex, Case, LostBlock, Stages, Trouble};
 use super::words::WORDS_MARK;
 use std::collections::{BTreeMap, HashMap};
 use std::panic::{catch_unwind, AssertUnwindSafe};
@@ -57,13 +57,14 @@ fn unless_panic<T>(f: impl FnOnce() -> T) -> Option<T> {
     catch_unwind(AssertUnwindSafe(f)).ok()
 }
 
-/// What the Rust is asked with: its definitions, and whether the unchanged Rust has one order of them only. Where it has several, the
-/// test copy is asked, whose list of definitions is sorted.
+/// What the Rust is asked with: its definitions, whether the unchanged Rust has one order of them only, and the block that it loses.
+/// The test copy is always asked, the unchanged Rust where it has one order and loses none.
 struct Asked<'a> {
     case: &'a Case,
     formula: &'a str,
     map: HashMap<String, String>,
     one_order: bool,
+    lost: Option<LostBlock>,
 }
 
 pub fn check(case: &Case, findings: &mut Findings) {
@@ -73,26 +74,35 @@ pub fn check(case: &Case, findings: &mut Findings) {
     };
     let formula = std::str::from_utf8(&case.formula).expect("only own bytes");
     let map = records.iter().map(|r| (r.name.clone(), r.latex.clone())).collect();
-    let asked = Asked { case, formula, map, one_order: one_order(&records) };
+    let run = |limit: usize| {
+        let mut stages = Stages::new(limit);
+        let converted = typst_to_latex(formula, &records, case.display, &mut stages);
+        (converted, stages.lost)
+    };
+    let (mut converted, mut lost) = run(judge::STAGE_SYMBOLS);
+    if lost.is_some() {
+        findings.count("the base refuses 6");
+    }
+    let overgrown = matches!(&converted, Err(trouble) if trouble.number == 5);
+    if overgrown {
+        // The same stages with more room must still be the Rust's.
+        findings.count("5 overgrown");
+        (converted, lost) = run(60_000);
+    }
+    let asked = Asked { case, formula, map, one_order: one_order(&records), lost };
     findings.count(if asked.one_order { "one order only" } else { "several orders, asked of the test copy" });
-    let run = |limit: usize| typst_to_latex(formula, &records, case.display, &mut Stages::new(limit));
-    match run(judge::STAGE_SYMBOLS) {
+    lost_block(&asked, findings);
+    match converted {
+        Ok(latex) if overgrown => same_text("overgrown, followed to its end", &asked, &latex, findings),
         Ok(latex) => {
             let short = latex.len() > case.output;
             findings.count(if short { "10 after a finished text" } else { "0 accepted" });
             same_text("accepted", &asked, &latex, findings);
         }
-        Err(trouble) if trouble.number == 5 => {
-            // The same stages with more room must still be the Rust's.
-            findings.count("5 overgrown");
-            match run(60_000) {
-                Ok(latex) => same_text("overgrown, followed to its end", &asked, &latex, findings),
-                Err(other) if other.number == 5 => findings.count("5: above 60,000 symbols, not followed"),
-                Err(other) => {
-                    findings.count(&format!("5: another number ({}) waits behind", other.number));
-                    check_trouble(&other, &asked, findings);
-                }
-            }
+        Err(other) if other.number == 5 => findings.count("5: above 60,000 symbols, not followed"),
+        Err(other) if overgrown => {
+            findings.count(&format!("5: another number ({}) waits behind", other.number));
+            check_trouble(&other, &asked, findings);
         }
         Err(trouble) => {
             findings.count(&format!("{} on the way", trouble.number));
@@ -102,7 +112,7 @@ pub fn check(case: &Case, findings: &mut Findings) {
 }
 
 fn same_text(what: &str, asked: &Asked, latex: &str, findings: &mut Findings) {
-    let Asked { case, formula, map, one_order } = asked;
+    let Asked { case, formula, map, one_order, lost } = asked;
     let copy = unless_panic(|| crate::changed::typst_to_latex(formula, map, case.display));
     let same = |rust: &Option<String>| rust.as_deref() == Some(latex);
     match copy {
@@ -110,7 +120,7 @@ fn same_text(what: &str, asked: &Asked, latex: &str, findings: &mut Findings) {
         copy if same(&copy) => findings.count(&format!("{what}: the test copy's bytes")),
         Some(_) => findings.disagree(&format!("{what}: other bytes than the test copy's"), case),
     }
-    if *one_order {
+    if *one_order && lost.is_none() {
         match unless_panic(|| crate::typst_to_latex(formula, map, case.display)) {
             None => findings.disagree(&format!("{what}: the Rust panics"), case),
             rust if same(&rust) => findings.count(&format!("{what}: the Rust's bytes")),
@@ -122,7 +132,6 @@ fn same_text(what: &str, asked: &Asked, latex: &str, findings: &mut Findings) {
 fn check_trouble(trouble: &Trouble, asked: &Asked, findings: &mut Findings) {
     let Asked { case, formula, map, .. } = asked;
     match trouble.number {
-        6 => lost_block(trouble, asked, findings),
         7 => unsettled(trouble, case, findings),
         8 => {
             let panics = unless_panic(|| crate::convert_lr(&trouble.text)).is_none()
@@ -138,33 +147,37 @@ fn check_trouble(trouble: &Trouble, asked: &Asked, findings: &mut Findings) {
     }
 }
 
-/// The unchanged function leaves the mark in its text. Where it has several orders, the whole of the test copy does, or a later stage of it
-/// panics.
-fn lost_block(trouble: &Trouble, asked: &Asked, findings: &mut Findings) {
-    let Asked { case, formula, map, one_order } = asked;
-    if trouble.at == DEFINITIONS_MARK as usize {
-        let text = match one_order {
-            true => Some(crate::apply_definitions_outside_text(&trouble.text, map)),
-            false => unless_panic(|| crate::changed::typst_to_latex(formula, map, case.display)),
-        };
-        match text {
-            Some(text) if text.contains(DEFINITIONS_MARK) => findings.count("6: definitions leave U+FFFE"),
-            Some(_) => findings.disagree("6: definitions leave no mark", case),
-            None => findings.exception("6: a later stage panics", case),
+/// Where a block is lost, the unchanged function leaves the mark in its text.
+fn lost_block(asked: &Asked, findings: &mut Findings) {
+    let Asked { case, map, one_order, lost, .. } = asked;
+    match lost {
+        None => {}
+        Some(lost) if lost.mark == WORDS_MARK => lost_in_words(lost, case, findings),
+        Some(_) if !one_order => findings.count("a lost block: several orders, not asked"),
+        Some(lost) => {
+            if crate::apply_definitions_outside_text(&lost.text, map).contains(DEFINITIONS_MARK) {
+                findings.count("a lost block: definitions leave U+FFFE");
+            } else {
+                findings.disagree("a lost block: definitions leave no mark", case);
+            }
         }
-        return;
     }
-    // Behind the put-back of words other stages follow. Of these `lr` can panic (it would be 8): then `lr(` is spelled
-    // otherwise, which no stage up to the put-back notices.
-    match unless_panic(|| crate::convert_syntax(&trouble.text, case.display)) {
-        Some(text) if text.contains(WORDS_MARK) => return findings.count("6: words leave U+FFFD"),
-        Some(_) => findings.exception("6: a later stage drops the mark", case),
-        None => findings.exception("6: a later stage panics", case),
+}
+
+/// Behind the put-back of words other stages follow. Of these `lr` can panic (it would be 8), and a round, since a mark has three
+/// bytes: then `lr(` is spelled otherwise and display is off, which no stage up to the put-back notices.
+fn lost_in_words(lost: &LostBlock, case: &Case, findings: &mut Findings) {
+    match unless_panic(|| crate::convert_syntax(&lost.text, case.display)) {
+        Some(text) if text.contains(WORDS_MARK) => return findings.count("a lost block: words leave U+FFFD"),
+        Some(_) => findings.exception("a lost block: a later stage drops the mark", case),
+        None => findings.exception("a lost block: a later stage panics", case),
     }
-    let without_lr = trouble.text.replace("lr(", "zr(");
+    let without_lr = lost.text.replace("lr(", "zr(");
     match unless_panic(|| crate::convert_syntax(&without_lr, false)) {
-        Some(text) if text.contains(WORDS_MARK) => findings.count("6: words leave U+FFFD where lr is spelled otherwise"),
-        _ => findings.disagree("6: words leave no mark", case),
+        Some(text) if text.contains(WORDS_MARK) => {
+            findings.count("a lost block: words leave U+FFFD without lr and fractions");
+        }
+        _ => findings.disagree("a lost block: words leave no mark", case),
     }
 }
 

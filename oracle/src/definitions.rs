@@ -1,5 +1,5 @@
-//! `apply_definitions_outside_text` with its checks: each single definition is a stage, and number 6 after the put-back.
-//! The transcribed lines come from `math_conv.rs` (MIT licence, see judge.rs).
+//! `apply_definitions_outside_text` with its checks: each single definition is a stage. The transcribed lines come from
+//! `math_conv.rs` (MIT licence, see judge.rs), but for the closing mark of a placeholder and the put-back (A2).
 
 use super::judge::{Stages, Trouble};
 use super::table::Record;
@@ -8,30 +8,37 @@ use std::collections::HashMap;
 
 pub const DEFINITIONS_MARK: char = '\u{FFFE}';
 
-/// The length of a text in symbols where each placeholder (mark, number, mark) counts as the block it stands for, and a
-/// placeholder within a block again. Read from the left, marks always come in pairs, since no stage makes or loses one
-/// while blocks are held.
-pub fn full_length(text: &str, mark: char, blocks: &[String]) -> usize {
-    let mut length = 0;
-    let mut symbols = text.chars();
-    while let Some(symbol) = symbols.next() {
-        if symbol != mark {
-            length += 1;
-            continue;
-        }
-        let number: String = symbols.by_ref().take_while(|&c| c != mark).collect();
-        let block = &blocks[number.parse::<usize>().expect("a number stands between two marks")];
-        length += full_length(block, mark, blocks);
+/// Ends a placeholder, so that no typed number reads as one. No formula and no table holds it.
+const CLOSING_MARK: char = '\u{FFFF}';
+
+/// The text with each placeholder (mark, number, closing mark) replaced by the block that it stands for, and so within the block.
+pub fn in_full(text: &str, mark: char, blocks: &[String]) -> String {
+    let mut parts = text.split(mark);
+    let mut full = parts.next().unwrap_or_default().to_string();
+    for part in parts {
+        let (number, rest) = part.split_once(CLOSING_MARK).expect("a placeholder has two marks");
+        let block = &blocks[number.parse::<usize>().expect("a number stands between them")];
+        full.push_str(&in_full(block, mark, blocks));
+        full.push_str(rest);
     }
-    length
+    full
 }
 
-/// Number 6: a mark remains after the put-back.
-pub fn refuse_lost_block(result: &str, mark: char, input: &str) -> Result<(), Trouble> {
-    if result.contains(mark) {
-        return Err(Trouble { number: 6, text: input.to_string(), at: mark as usize });
+/// The length of a text in symbols, held blocks in full.
+pub fn full_length(text: &str, mark: char, blocks: &[String]) -> usize {
+    in_full(text, mark, blocks).chars().count()
+}
+
+/// Whether a mark remains after the put-back of the unchanged Rust: its placeholders end with the mark that they begin with, and
+/// the block held first goes back first.
+pub fn base_loses_block(text: &str, mark: char, blocks: &[String]) -> bool {
+    let of_one_mark = |text: &str| text.replace(CLOSING_MARK, &mark.to_string());
+    let mut result = of_one_mark(text);
+    for (i, block) in blocks.iter().enumerate() {
+        let placeholder = format!("{mark}{i}{mark}");
+        result = result.replace(&placeholder, &of_one_mark(block));
     }
-    Ok(())
+    result.contains(mark)
 }
 
 /// Longer names first, names of equal length in ascending byte order (A1).
@@ -56,7 +63,7 @@ fn hold_out(input: &str) -> (String, Vec<String>) {
             let after_text = &result[start + 6..];
             if let Some(end) = crate::find_matching_brace(after_text) {
                 let text_content = &result[start..=start + 6 + end];
-                let placeholder = format!("\u{FFFE}{len}\u{FFFE}", len = text_blocks.len());
+                let placeholder = format!("\u{FFFE}{len}\u{FFFF}", len = text_blocks.len());
                 text_blocks.push(text_content.to_string());
                 result = format!(
                     "{}{}{}",
@@ -89,12 +96,10 @@ pub fn apply_definitions_outside_text(
         stages.finished_length(&format!("definition {name}"), length)?;
     }
 
-    for (i, block) in text_blocks.iter().enumerate() {
-        let placeholder = format!("\u{FFFE}{i}\u{FFFE}");
-        result = result.replace(&placeholder, block);
+    if base_loses_block(&result, DEFINITIONS_MARK, &text_blocks) {
+        stages.base_loses(DEFINITIONS_MARK, input);
     }
-    refuse_lost_block(&result, DEFINITIONS_MARK, input)?;
-    stages.finished("definitions put back", result)
+    stages.finished("definitions put back", in_full(&result, DEFINITIONS_MARK, &text_blocks))
 }
 
 /// The Rust's pattern for a name, compiled once.

@@ -42,7 +42,8 @@ judge generate SEED N                N generated cases as such lines
 judge crosscheck SEED N [FILE]       judges N generated cases and all recorded ones against the unchanged functions
 judge short [FILE]                   makes the list of short plain formulas (default crates/plain_short/stdout): says
                                      that the file is the same, or writes it
-judge smallest                       the shortest texts that 5 to 9 refuse, by a search through all of them; some minutes
+judge smallest                       the shortest texts that 5 and 7 to 9 refuse and in which the Rust loses a block, by a
+                                     search through all of them; some minutes
 judge stages < LINES                 each line by one function of the Rust, as the program stage_lines answers it
 judge compare SEED N                 the library against the judge; only as oracle/trial builds it
 judge plain SEED N                   the library's plain check against another parser; only as oracle/trial builds it";

@@ -6,7 +6,7 @@ use super::{lengths, pieces, plain, tables, traps};
 use super::word_tables::{FUNCTION_MAPPINGS, GREEK_LETTERS, OPERATOR_REPLACEMENTS, WORD_MAPPINGS};
 
 /// Number, name, and how often a generated case is of this family (0: written by hand, see traps.txt).
-pub const FAMILIES: [(u8, &str, usize); 27] = [
+pub const FAMILIES: [(u8, &str, usize); 28] = [
     (0, "document", 0),
     (1, "readings", 0),
     (2, "order", 0),
@@ -34,6 +34,7 @@ pub const FAMILIES: [(u8, &str, usize); 27] = [
     (24, "two refusals", 80),
     (25, "buffers", 500),
     (26, "equal lengths", 600),
+    (27, "enclosed", 700),
 ];
 
 pub fn family_number(name: &str) -> Option<u8> {
@@ -76,6 +77,7 @@ pub fn of_family(family: u8, rng: &mut Rng, depth: usize) -> Case {
         }
         "defined" => return defined(rng, tables::good, deep),
         "equal lengths" => return defined(rng, tables::of_one_length, deep),
+        "enclosed" => return enclosed(rng, deep),
         "tables" => return with_fault(rng, deep),
         "long" => return long(rng),
         "growth" => return growth(rng),
@@ -199,6 +201,17 @@ fn defined(rng: &mut Rng, table: fn(&mut Rng) -> Vec<u8>, deep: usize) -> Case {
     Case { table, ..usual(rng, text.into_bytes()) }
 }
 
+/// Blocks in blocks, at times with definitions that bring in more of them; seldom as many as a text holds.
+fn enclosed(rng: &mut Rng, deep: usize) -> Case {
+    if rng.once_in(80) {
+        let latex = rng.pick(&lengths::BLOCKS);
+        return lengths::many_blocks(latex, rng.between(STAGE_SYMBOLS - 1, STAGE_SYMBOLS + 1));
+    }
+    let table = if rng.once_in(3) { tables::of_blocks(rng) } else { Vec::new() };
+    let formula = pieces::enclosed(rng, deep).into_bytes();
+    Case { table, ..usual(rng, formula) }
+}
+
 fn with_fault(rng: &mut Rng, deep: usize) -> Case {
     let mut fault = rng.below(tables::FAULTS);
     // Tables of the greatest size are few.
@@ -230,7 +243,7 @@ fn rounds(rng: &mut Rng) -> Case {
     Case { formula, ..usual(rng, Vec::new()) }
 }
 
-/// A case that two numbers (or more) refuse.
+/// A case that two numbers (or more) refuse; 6 stands for what the base refused.
 fn two_refusals(rng: &mut Rng) -> Case {
     let (first, second) = (rng.between(1, 10), rng.between(1, 10));
     let mut case = Case { display: true, ..refused_by(rng, first) };
@@ -244,7 +257,7 @@ pub fn refused_by(rng: &mut Rng, number: usize) -> Case {
     case
 }
 
-/// Adds a reason for this number to a case, in front or behind.
+/// Adds a reason for this number to a case, in front or behind. For 6, which refuses nothing any more, what the base refused.
 pub fn merge_refusal(rng: &mut Rng, case: &mut Case, number: usize) {
     let more = match number {
         1 => rng.pick(&["\u{1}", "\u{7f}", "\r", "\u{e9}", "\u{2044}", "\u{fffd}"]).to_string(),

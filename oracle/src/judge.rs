@@ -54,15 +54,29 @@ pub struct Trouble {
     pub at: usize,
 }
 
-/// The limit on a stage's finished text, and the lengths met so far.
+/// A block that the unchanged Rust loses: the mark that remains after its put-back, and the text that entered the function. The
+/// base refused it by number 6.
+#[derive(Clone, Debug)]
+pub struct LostBlock {
+    pub mark: char,
+    pub text: String,
+}
+
+/// The limit on a stage's finished text, the lengths met so far, and where the base refused 6.
 pub struct Stages {
     limit: usize,
     pub lengths: Vec<(String, usize)>,
+    pub lost: Option<LostBlock>,
 }
 
 impl Stages {
     pub fn new(limit: usize) -> Self {
-        Stages { limit, lengths: Vec::new() }
+        Stages { limit, lengths: Vec::new(), lost: None }
+    }
+
+    /// Only the first loss counts: behind it the unchanged Rust has another text.
+    pub fn base_loses(&mut self, mark: char, text: &str) {
+        self.lost.get_or_insert_with(|| LostBlock { mark, text: text.to_string() });
     }
 
     /// Number 5: `length` is the stage's finished text in symbols, held blocks in full.

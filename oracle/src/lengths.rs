@@ -22,7 +22,7 @@ const fn late(stage: &'static str, head: &'static str, piece: &'static str, tail
     Growth { stage, head, piece, tail, pumped: true }
 }
 
-pub const GROWTHS: [Growth; 63] = [
+pub const GROWTHS: [Growth; 68] = [
     early("op", "", "op()", ""),
     early("cases", "cases(", "a,", "a)"),
     early("attach", "", "op()op()op()op()attach(,b:c)", ""),
@@ -48,7 +48,7 @@ pub const GROWTHS: [Growth; 63] = [
     late("definition ab", "\\text{", "ab", "} ab"),
     late("definition ab", "\\text{qqqqqqqqqqqqqqqqqqqqqqqqqqqqqqqqqqqqqqqqqqqqqqqqqqqqqqqqqqqqqqqqq}", "\"ab\"+", "+ab"),
     late("definitions put back", "", "\\text{x}", "+"),
-    // Number 6 waits behind the put-back; a text too long before it is 5.
+    // A typed number between blocks changes no length.
     late("definition ab", "\\text{a}\\text{b}0\\text{c}", "ab+", ""),
     late("sqrt", "", "sqrt()", ""),
     late("sqrt", "", "sqrt(", ""),
@@ -60,7 +60,7 @@ pub const GROWTHS: [Growth; 63] = [
     late("epsilon", "", "epsilon+", ""),
     late("pi", "", "pi+", ""),
     late("mu", "\\text{x}", "mu+", ""),
-    // A \mathrm block with a \text block inside: counted in full, and 6 at the end.
+    // A \mathrm block with a \text block inside is counted in full.
     late("mu", "\\mathrm{\\text{xxxxxxxxxxxxxxxxxxxxxxxx}yyyyyyyyyyyyyyyy}", "mu+", ""),
     late("mu", "\\mathrm{a}\\mathrm{b}0\\text{c}", "mu+", ""),
     late("pi", "infinity+infinity+infinity", "pi+", ""),
@@ -94,6 +94,12 @@ pub const GROWTHS: [Growth; 63] = [
     late("alignment", "", " \\\n", ""),
     // Shorter when all is done, but too long before.
     late("alignment", "", "\\alpha\\;", ""),
+    // Blocks in blocks are counted in full, once.
+    late("mu", "", "\\mathrm{a\\text{mu}}mu+", ""),
+    late("words put back", "\\text{in}", "\\mathrm{\\text{}0\\text{}}oo+", ""),
+    late("mp", "\\mathrm{", "\\text{mp}", "}mp"),
+    late("Psi", "", "\\mathrm{Phi\\text{Psi}}1", ""),
+    late("_\\text{", "", "_\\text{}\\text{}0\\text{}", ""),
 ];
 
 const PUMPS: usize = 31;
@@ -137,6 +143,54 @@ pub fn growing(growth: &Growth, target: usize, display: bool) -> Case {
     }
     let filler = target.saturating_sub(length(pieces, 0));
     case(pieces, filler.min(4_096usize.saturating_sub(case(pieces, 0).formula.len())))
+}
+
+/// LaTeX with blocks, some in others.
+pub const BLOCKS: [&str; 6] = [
+    "\\mathrm{a\\text{b}}",
+    "\\mathrm{\\text{}}0mu",
+    "\\text{}1",
+    "\\mathrm{\\text{}2\\text{}mu\\text{}}3mu",
+    "\\mathrm{\\mathrm{phi\\text{psi}}}00mu",
+    "\\mathrm{\\text{}\\text{}\\text{}\\text{}0\\text{}\\text{}1\\text{}\\text{}}",
+];
+
+/// A text of `target` symbols behind the words, with hundreds of blocks: the name `ab` again and again, which stands for `latex`.
+/// A `mu` at the end of it grows by a symbol.
+pub fn many_blocks(latex: &str, target: usize) -> Case {
+    let width = latex.len() + usize::from(latex.ends_with("mu")) + 1;
+    let formula = "ab+".repeat(target / width) + &"+".repeat(target % width);
+    Case {
+        formula: formula.into_bytes(),
+        table: record_bytes(b"ab", latex.as_bytes()),
+        display: true,
+        work: WORK_BYTES,
+        output: STAGE_SYMBOLS,
+    }
+}
+
+/// Formulas of up to 4,096 bytes with hundreds of typed blocks, in a row and within each other.
+pub fn typed_blocks() -> Vec<String> {
+    let around = |open: &str, times: usize, inside: &str, close: &str| open.repeat(times) + inside + &close.repeat(times);
+    vec![
+        "upright(a \"b\")".repeat(292),
+        "upright(a \"b\"c)0".repeat(256),
+        "\\mathrm{a\\text{b}}0".repeat(215),
+        "\\text{a}\\mathrm{b}1".repeat(215),
+        format!("\\mathrm{{{}}}", "\"b\"7".repeat(620)),
+        format!("\\mathrm{{{}}}", "\"\"".repeat(909)),
+        around("\\mathrm{", 454, "\"mu\"mu", "}"),
+        around("\\text{", 584, "mu", "}"),
+        around("\\mathrm{\\text{", 255, "mu", "}}"),
+        around("\\text{\\mathrm{", 255, "mu", "}}"),
+        // The first `\text{` does not close, so that only `\mathrm{` blocks are held.
+        "\\text{".to_string() + &"\\mathrm{mu\\text{0}}0mu".repeat(170),
+        around("\\mathrm{\"a\"", 300, "mu", "}") + &"}mu".repeat(100),
+        "\\text{a}\\text{b}".to_string() + &"1234567890".repeat(400) + "\\text{c}",
+        "\\text{a}\\text{b}".to_string() + &"0".repeat(4_000) + "\\text{c}",
+        (0..340).map(|number| format!("\\text{{}}{number}")).collect(),
+        (0..340).rev().map(|number| format!("\\text{{}}{number}")).collect(),
+    ]
 }
 
 /// Ways to nest a fraction in another: the first six in the denominator, a round for each; the others in the numerator,

@@ -211,6 +211,40 @@ pub fn held(rng: &mut Rng) -> String {
     text
 }
 
+/// Names between blocks that a table may define (`tables::of_blocks`), of different lengths, so that the Rust has one order.
+pub const BLOCK_NAMES: [&str; 4] = ["ab", "one", "zero", "units"];
+
+/// Blocks in blocks, by commands, `upright` and quotes, some not closed, with numbers and names between them.
+pub fn enclosed(rng: &mut Rng, depth: usize) -> String {
+    let mut text = between(rng);
+    for _ in 0..rng.between(1, 3) {
+        let inside = if depth == 0 { between(rng) } else { enclosed(rng, depth - 1) };
+        text.push_str(&match rng.below(18) {
+            0..=4 => format!("\\mathrm{{{inside}}}"),
+            5..=7 => format!("\\text{{{inside}}}"),
+            8..=11 => format!("upright({inside})"),
+            12 => format!("{}{inside}", rng.pick(&["\\mathrm{", "\\text{", "upright(", "{", "\""])),
+            13 => format!("{inside}{}", rng.pick(&["}", ")", "\""])),
+            _ => quoted(rng),
+        });
+        text.push_str(&between(rng));
+    }
+    text
+}
+
+/// What stands between blocks: often a number, which may be that of a block.
+fn between(rng: &mut Rng) -> String {
+    match rng.below(12) {
+        0..=2 => rng.below(6).to_string(),
+        3 => rng.pick(&["00", "01", "10", "11", "007", "65536", "4294967297", "18446744073709551616"]).to_string(),
+        4 => rng.pick(&["_", "^", "/", " + ", " ", "\\/", "x_", "y^"]).to_string(),
+        5 => rng.pick(&BLOCK_NAMES).to_string(),
+        6 => name(rng),
+        7 | 8 => letter(rng),
+        _ => String::new(),
+    }
+}
+
 /// Some small damage: a piece cut out, doubled, moved in, or the end cut off.
 pub fn mutate(rng: &mut Rng, text: &str) -> String {
     let mut symbols: Vec<char> = text.chars().collect();

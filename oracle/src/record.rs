@@ -9,7 +9,7 @@ use super::table::record_bytes;
 use super::{lengths, tables, traps};
 
 /// How many cases of each generated family, and how many bytes their formulas may have.
-const SHARES: [(&str, usize, usize); 14] = [
+const SHARES: [(&str, usize, usize); 15] = [
     ("names", 400, 100),
     ("expressions", 900, 110),
     ("soup", 700, 90),
@@ -24,6 +24,7 @@ const SHARES: [(&str, usize, usize); 14] = [
     ("defined", 1_000, 110),
     ("buffers", 900, 90),
     ("equal lengths", 300, 110),
+    ("enclosed", 400, 110),
 ];
 
 struct Recorder {
@@ -160,6 +161,17 @@ fn limits(recorder: &mut Recorder) {
             recorder.add("growth", case);
         }
     }
+    for (i, latex) in lengths::BLOCKS.into_iter().enumerate() {
+        for target in [STAGE_SYMBOLS - 1, STAGE_SYMBOLS, STAGE_SYMBOLS + 1] {
+            let mut case = lengths::many_blocks(latex, target);
+            // The answer itself once for each, which fills its buffer.
+            case.output = if target == STAGE_SYMBOLS { target } else { 8_000 + i };
+            recorder.add("enclosed", case);
+        }
+    }
+    for (i, formula) in lengths::typed_blocks().into_iter().enumerate() {
+        recorder.add("enclosed", roomy(&formula, &[], i % 3 != 2));
+    }
     for core in ["a/a", "a", "a/abs(b \\/ c)"] {
         for way in 0..lengths::WAYS {
             let counts: &[usize] = match way {
@@ -178,7 +190,7 @@ fn limits(recorder: &mut Recorder) {
     recorder.add("rounds", roomy(&lengths::nested(0, 66, "a"), &[], false));
 }
 
-/// Every number alone, and every pair in both places.
+/// Every number alone, and every pair in both places; for 6, what the base refused.
 fn refusals(recorder: &mut Recorder) {
     for first in 1..=10 {
         for second in 1..=10 {

@@ -1,7 +1,8 @@
-//! The shortest texts that the numbers 5 to 9 refuse, with no definitions and display on. Texts are tried shortest first: all of
-//! them up to 3 bytes, and behind that those made of the tokens that a number is met with.
+//! The shortest texts that the numbers 5 and 7 to 9 refuse, and under 6 those in which the Rust loses a block, with no definitions
+//! and display on. Texts are tried shortest first: all of them up to 3 bytes, and behind that those made of the tokens that a
+//! number is met with.
 
-use super::judge::{judge, Case, STAGE_SYMBOLS, WORK_BYTES};
+use super::judge::{typst_to_latex, Stages, STAGE_SYMBOLS};
 use super::table::is_own_byte;
 use std::collections::BTreeSet;
 
@@ -28,7 +29,7 @@ pub fn smallest() -> bool {
     true
 }
 
-/// The first text that is refused by one of the numbers, and how many were tried.
+/// The first text that meets one of the numbers, and how many were tried.
 fn shortest(numbers: &[u8], tokens: &[&str], most: usize) -> String {
     let (mut tried, mut found) = (0, None);
     for bytes in 0..=most {
@@ -36,7 +37,7 @@ fn shortest(numbers: &[u8], tokens: &[&str], most: usize) -> String {
             tried += 1;
             let answer = number(text);
             if numbers.contains(&answer) {
-                found = Some(format!("{text} is refused {answer}, {bytes} bytes, the first of {tried} texts"));
+                found = Some(format!("{text} meets {answer}, {bytes} bytes, the first of {tried} texts"));
             }
             found.is_some()
         });
@@ -67,7 +68,7 @@ fn overgrown(text: &str) -> String {
         for text in &texts {
             tried += 1;
             if number(text) == 5 {
-                return format!("{text} is refused 5, {} bytes, the first of {tried} texts", text.len());
+                return format!("{text} meets 5, {} bytes, the first of {tried} texts", text.len());
             }
         }
         let put_in = |text: &String, place: usize| BRACES.map(|symbol| format!("{}{symbol}{}", &text[..place], &text[place..]));
@@ -75,7 +76,12 @@ fn overgrown(text: &str) -> String {
     }
 }
 
+/// The number that refuses a text, 0 for none; 6 where the unchanged Rust loses a block, which nothing refuses any more.
 fn number(formula: &str) -> u8 {
-    let formula = formula.as_bytes().to_vec();
-    judge(&Case { formula, table: Vec::new(), display: true, work: WORK_BYTES, output: STAGE_SYMBOLS }).number()
+    let mut stages = Stages::new(STAGE_SYMBOLS);
+    let converted = typst_to_latex(formula, &[], true, &mut stages);
+    match stages.lost {
+        Some(_) => 6,
+        None => converted.err().map_or(0, |trouble| trouble.number),
+    }
 }

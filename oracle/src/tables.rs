@@ -73,6 +73,23 @@ pub fn of_one_length(rng: &mut Rng) -> Vec<u8> {
     table
 }
 
+/// A good table whose LaTeX has blocks, halves of blocks and numbers.
+pub fn of_blocks(rng: &mut Rng) -> Vec<u8> {
+    let mut table = Vec::new();
+    for name in pieces::BLOCK_NAMES {
+        let latex = match rng.below(8) {
+            0 => continue,
+            1 => rng.pick(&["0", "1", "00", "2", "10"]).to_string(),
+            2 => rng.pick(&["\\text{", "\\mathrm{", "}", "\\mathrm{\\text{", "}}"]).to_string(),
+            3 => format!("\\mathrm{{{}}}", rng.pick(&pieces::BLOCK_NAMES)),
+            4 => format!("\\text{{{}}}{}", pieces::atom(rng), rng.below(3)),
+            _ => pieces::enclosed(rng, 1),
+        };
+        table.extend(record_bytes(name.as_bytes(), latex.as_bytes()));
+    }
+    table
+}
+
 /// The names of a good table in its order, so that a formula can use them.
 pub fn names(table: &[u8]) -> Vec<String> {
     super::table::read(table).unwrap_or_default().into_iter().map(|record| record.name).collect()

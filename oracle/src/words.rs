@@ -1,8 +1,8 @@
-//! `convert_syntax` and `convert_greek_capitals` with their checks: each replacement entry is a stage, number 6 comes after
-//! the put-back, 7 and 9 in the rounds, 8 in `lr`. The transcribed lines come from `math_conv.rs` (MIT licence, see
-//! judge.rs).
+//! `convert_syntax` and `convert_greek_capitals` with their checks: each replacement entry is a stage, 7 and 9 come in the
+//! rounds, 8 in `lr`. The transcribed lines come from `math_conv.rs` (MIT licence, see judge.rs), but for the closing mark of
+//! a placeholder and the put-back (A2).
 
-use super::definitions::{full_length, refuse_lost_block};
+use super::definitions::{base_loses_block, full_length, in_full};
 use super::fractions;
 use super::judge::{Stages, Trouble};
 use super::word_tables::{FUNCTION_MAPPINGS, GREEK_LETTERS, OPERATOR_REPLACEMENTS, WORD_MAPPINGS};
@@ -78,7 +78,7 @@ fn hold_out(input: &str) -> (String, Vec<String>) {
                 if let Some(end) = crate::find_matching_brace(after_cmd) {
                     let block_content = &result[start..=start + cmd_len + end];
                     let placeholder =
-                        format!("\u{FFFD}{len}\u{FFFD}", len = text_blocks_syntax.len());
+                        format!("\u{FFFD}{len}\u{FFFF}", len = text_blocks_syntax.len());
                     text_blocks_syntax.push(block_content.to_string());
                     result = format!(
                         "{}{}{}",
@@ -121,12 +121,10 @@ fn outside_blocks(input: &str, syntax_input: &str, stages: &mut Stages) -> Resul
         stages.finished_length(typst, full_length(&result, WORDS_MARK, &text_blocks_syntax))?;
     }
 
-    for (i, block) in text_blocks_syntax.iter().enumerate() {
-        let placeholder = format!("\u{FFFD}{i}\u{FFFD}");
-        result = result.replace(&placeholder, block);
+    if base_loses_block(&result, WORDS_MARK, &text_blocks_syntax) {
+        stages.base_loses(WORDS_MARK, syntax_input);
     }
-    refuse_lost_block(&result, WORDS_MARK, syntax_input)?;
-    stages.finished("words put back", result)
+    stages.finished("words put back", in_full(&result, WORDS_MARK, &text_blocks_syntax))
 }
 
 /// The Rust's loop over the matches of one entry: a kept match is copied whole, any other gives way to `latex`.

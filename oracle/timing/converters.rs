@@ -55,15 +55,16 @@ impl Converters {
         as_is::typst_to_latex(formula, &self.none, true)
     }
 
-    /// All three must give the same LaTeX, unless the library refuses the text. None where the Rust panics: the library must
-    /// refuse that.
+    /// All three must give the same LaTeX, unless the library refuses the text or the Rust loses a block, whose mark is then in its
+    /// LaTeX or makes it panic. None where the Rust panics.
     fn compared(&mut self, formula: &str) -> Option<u8> {
         let as_is = unless_panic(|| self.as_is(formula));
         let kept = unless_panic(|| self.kept(formula));
         assert!(kept == as_is, "kept expressions change the answer to {formula:?}");
-        let ours = self.ours(formula).map(|latex| Some(latex) == as_is.as_ref().map(String::as_bytes));
-        assert!(ours != Ok(false), "another answer to {formula:?}");
-        as_is.map(|_| ours.map_or_else(jistranu::Refusal::number, |_| 0))
+        let rust = as_is.as_ref().filter(|latex| !latex.contains(['\u{FFFD}', '\u{FFFE}']));
+        let same = self.ours(formula).map(|latex| rust.is_none_or(|rust| rust.as_bytes() == latex));
+        assert!(same != Ok(false), "another answer to {formula:?}");
+        as_is.map(|_| self.refused(formula))
     }
 
     pub fn time_floor(&mut self, calls: u32) -> f64 {

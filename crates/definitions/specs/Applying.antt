@@ -27,7 +27,7 @@ use Rattle.text.specs.Untouched.{Untouched, untouched-alike, EntriesLeft, entri
 use Rattle.text.specs.declared.Progress.{Progress}
 use Rattle.held_laws.specs.WellMade.{WellMade}
 use Rattle.held_laws.specs.Rewriting.{sweep-made}
-use Rattle.held_laws.specs.Instances.{SoundDefinition, EverySound, defined-between, sound-table, sound-order, definitions-made}
+use Rattle.held_laws.specs.Instances.{SoundDefinition, EverySound, defined-between, order-sound, definitions-made}
 use Rattle.name_entry.specs.declared.bounds.Bounds.the-variants.{Defined}
 use Rattle.name_entry.specs.Bounded.{EntryTextsFit, boundedMatch, defined-matches}
 use Rattle.name_entry.specs.Sized.{sized, FitsWithBlocks, StagedWithin, Remaining, remaining-none, remaining-step}
@@ -36,7 +36,6 @@ use Rattle.table.specs.declared.order.Cursor.{Cursor}
 use Rattle.table.specs.declared.order.Cursor.the-variants.{Start, Behind}
 use Rattle.table.specs.Reading.{Lies, Short, definitionAt, length-name}
 use Rattle.table.specs.Order.{remaining, remaining-start}
-use Rattle.table.specs.Sound.{definitions-some}
 use Rattle.held_stages.specs.Outside.{Extra}
 use Rattle.held_stages.specs.Carried.{held-sized}
 
@@ -136,9 +135,6 @@ module _ (table : List ℕ) (c : Cursor) (r : Record) (next : remaining table c 
 pub left-done : (table : List ℕ) (c : Cursor) (extra : ℕ) → remaining table c ≡ [] → (s : List ℕ) → sizedDefinitions extra (remaining table c) s ≡ passed s
 unfolding sizedDefinitions
 left-done table c extra e s = ap (λ l. sizedDefinitions extra l s) e
-
-pub order-sound : (table : List ℕ) (ds : List Definition) → definitions table ≡ some ds → EverySound (inOrder ds)
-order-sound table ds e = sound-order (rearranged-in-order ds) (sound-table ds (definitions-some table ds e .1))
 
 pub left-none :
     (table : List ℕ) (ds : List Definition) (extra : ℕ) {w : List ℕ} {p : Progress} → definitions table ≡ some ds → Ready w p → FitsWithBlocks extra p

@@ -10,7 +10,7 @@ use native.Mathlib.Decide.{decLt}
 use native.Mathlib.Omega.{arith}
 use lib.ListN.{length, length-reverse}
 use borrow.Author.Tests.{ne-eqb, eq-eqb}
-use Rattle.spec.specs.Held.{up, counted, decimal}
+use Rattle.spec.specs.Program.{up, counted, decimal}
 
 abbrev pub lastDigit : ℕ → ℕ
 lastDigit n = n % 10 + code "0"

@@ -2,9 +2,8 @@
 use mathlib.Core.Path.{_≡_, refl}
 use mathlib.Core.List.{[]}
 use Rattle.spec.specs.Symbols.{bytes}
-use Rattle.spec.specs.Held.{up, counted}
 use Rattle.spec.specs.Pipeline.{converted}
-use Rattle.spec.specs.Program.{printed}
+use Rattle.spec.specs.Program.{up, counted, printed}
 
 pub fraction-printed : printed (bytes "d\n(a + 1)/b") [] ≡ bytes "ok 15\n\\frac{a + 1}{b}\n"
 unfolding converted counted up

@@ -2,10 +2,9 @@
 --     Holds            a text with marks lies at `at`, and its blocks where they belong
 --     holds-texts, holds-both    after one `hold_out`, and after two
 --     holds-rewritten  after a stage that rewrites the text between the marks
---     holds-lost       what `lost` tests
 --     back-romans, back-texts    `put_back` may be called, and what it gives
 use mathlib.Core.Path.{_≡_, refl, sym, ap, ap₂, _∙_, subst}
-use mathlib.Core.Bool.{false, _||_}
+use mathlib.Core.Bool.{false}
 use mathlib.Core.Logic.{inl}
 use mathlib.Core.List.{List, [], _++_, append-nil}
 use Prim.Native.Nat.{ℕ, _+_, _*_, _≤_}
@@ -19,10 +18,9 @@ use Rattle.text_symbols.specs.Parts.{part}
 use Rattle.text.specs.Writer.{Appended, Apart, appended-long, appended-part}
 use Rattle.text.specs.Written.{appended-text, appended-written, wrote-beyond}
 use Rattle.held_blocks.specs.declared.Marked.{Marked}
-use Rattle.held_laws.specs.Marks.{hasMark, count, order, concat, has-mark-append}
-use Rattle.held_laws.specs.Noted.{noted}
-use Rattle.held_laws.specs.WellMade.{WellMade, lost, concat-append, concat-mark-free}
-use Rattle.held_laws.specs.InFull.{text-marks-left}
+use Rattle.held_laws.specs.Marks.{hasMark, count, concat}
+use Rattle.held_laws.specs.WellMade.{textsOf, symbols-of, WellMade}
+use Rattle.held_laws.specs.InFull.{in-full-order, text-marks-left}
 use Rattle.held_laws.specs.Limits.{texts-few, texts-short, both-few, both-short}
 use Rattle.held_blocks.specs.Filing.{blocksAt, HeldOut}
 use Rattle.held_blocks.specs.HoldOut.{Hold, takenFrom}
@@ -32,9 +30,9 @@ use Rattle.held_blocks.specs.Keeping.{KeepsBlocks, keeps-none, keeps-fil
 pub record Holds (w : List ℕ) (at : ℕ) (m : Marked) (h : Held) : Type 0 where
   pub text : part at (m .len) w ≡ h .text
   pub short : m .len ≤ mostSymbols
-  pub keeps : KeepsBlocks w (h .texts ++ h .romans)
-  pub used : m .used ≡ length (concat (h .texts ++ h .romans))
-  pub filed : m .filed ≡ 4 * length (h .texts ++ h .romans)
+  pub keeps : KeepsBlocks w (textsOf h ++ h .romans)
+  pub used : m .used ≡ length (concat (textsOf h ++ h .romans))
+  pub filed : m .filed ≡ 4 * length (textsOf h ++ h .romans)
 
 -- ---- holding out
 -- the text that was written stands in its region
@@ -72,9 +70,9 @@ module _ {w : List ℕ} {from n to : ℕ} (hold : Hold w from n to 0 0) (free : 
           record {
             text = held-text-read (hold .long) (hold .region) h len;
             short = len;
-            keeps = rw (append-nil texts) kept;
-            used = rw (append-nil texts) used;
-            filed = rw (append-nil texts) filed;
+            keeps = rw (symbols-of [] texts, append-nil texts) kept;
+            used = rw (symbols-of [] texts, append-nil texts) used;
+            filed = rw (symbols-of [] texts, append-nil texts) filed;
           }
 
 -- a second `hold_out`, of what the first has left
@@ -94,15 +92,17 @@ holds-both s free source {w} {w′} {at} {to} {m} {m′} held hold h =
     let short = both-short s free source in
     let c = g .text .counted in
     let len : m′ .len ≤ mostSymbols = omega arith in
-    let used : m .used ≡ length (concat texts) = held .used ∙ ap (λ bs. length (concat bs)) (append-nil texts) in
-    let filed : m .filed ≡ 4 * length texts = held .filed ∙ ap (λ (bs : List (List ℕ)). 4 * length bs) (append-nil texts) in
-    let kept : KeepsBlocks w texts = subst (KeepsBlocks w) (append-nil texts) (held .keeps) in
+    let first : textsOf (holdTexts s) ++ [] ≡ texts = append-nil (textsOf (holdTexts s)) ∙ symbols-of [] texts in
+    let used : m .used ≡ length (concat texts) = held .used ∙ ap (λ bs. length (concat bs)) first in
+    let filed : m .filed ≡ 4 * length texts = held .filed ∙ ap (λ (bs : List (List ℕ)). 4 * length bs) first in
+    let kept : KeepsBlocks w texts = subst (KeepsBlocks w) first (held .keeps) in
+    let all : textsOf (holdBoth s) ++ romans ≡ texts ++ romans = ap (λ (bs : List (List ℕ)). bs ++ romans) (symbols-of _ texts) in
     record {
       text = held-text-read (hold .long) (hold .region) g len;
       short = len;
-      keeps = keeps-more texts romans (hold .region) used filed g kept (omega arith) (omega arith);
-      used = used-more texts romans (hold .region) used filed g;
-      filed = filed-more texts romans (hold .region) used filed g;
+      keeps = subst (KeepsBlocks w′) (sym all) (keeps-more texts romans (hold .region) used filed g kept (omega arith) (omega arith));
+      used = used-more texts romans (hold .region) used filed g ∙ ap (λ bs. length (concat bs)) (sym all);
+      filed = filed-more texts romans (hold .region) used filed g ∙ ap (λ (bs : List (List ℕ)). 4 * length bs) (sym all);
     }
 
 -- ---- with what is held
@@ -114,27 +114,16 @@ module _ {w : List ℕ} {at : ℕ} {m : Marked} {h : Held} (holds : Holds w at m
       record { text = text; short = short; keeps = keeps-beyond l beyond (holds .keeps); used = holds .used; filed = holds .filed }
 
   module _ (made : WellMade h) where
-    pub holds-lost :
-        hasMark (part blocksAt (m .used) w) || noted (order 0 (length (h .texts)) (part at (m .len) w)) (part at (m .len) w) ≡ lost h
-    unfolding lost
-    holds-lost =
-        ap₂ (λ x y. x || y)
-        (ap (λ n. hasMark (part blocksAt n w)) (holds .used)
-        ∙ ap hasMark (holds .keeps .block ∙ concat-append (h .texts) (h .romans))
-        ∙ has-mark-append (concat (h .texts)) (concat (h .romans))
-        ∙ ap (λ t. t || hasMark (concat (h .romans))) (concat-mark-free (h .texts) (made .texts)))
-        (ap (λ s. noted (order 0 (length (h .texts)) s) s) (holds .text))
-
     -- ---- putting back
     module _ {to : ℕ} (source : at + mostSymbols ≤ blocksAt) (region : to + mostSymbols ≤ blocksAt) (apart : Apart at (m .len) to mostSymbols) where
       roman-count : count romanMark (part at (m .len) w) ≡ length (h .romans)
       roman-count = ap (count romanMark) (holds .text) ∙ made .roman-marks
 
-      pub back-romans : Back w at (m .len) to romanMark (length (h .texts))
+      pub back-romans : Back w at (m .len) to romanMark (length (textsOf h))
       back-romans =
           let s = holds .short in
           let few = holds .keeps .short in
-          let l = length-append (h .texts) (h .romans) in
+          let l = length-append (textsOf h) (h .romans) in
           let c = roman-count in
           record {
             long = holds .keeps .long;
@@ -148,14 +137,14 @@ module _ {w : List ℕ} {at : ℕ} {m : Marked} {h : Held} (holds : Holds w at m
 
       module _
           {w′ : List ℕ} {n : ℕ}
-          (a : Appended w w′ to mostSymbols 0 n (filled romanMark (storedFrom w (length (h .texts)) (count romanMark (part at (m .len) w))) (part at (m .len) w)))
+          (a : Appended w w′ to mostSymbols 0 n (filled romanMark (storedFrom w (length (textsOf h)) (count romanMark (part at (m .len) w))) (part at (m .len) w)))
         where
           pub romans-back : Appended w w′ to mostSymbols 0 n (filled romanMark (h .romans) (h .text))
           romans-back =
               subst (λ l. Appended w w′ to mostSymbols 0 n l)
               (ap₂ (filled romanMark)
-              (ap (storedFrom w (length (h .texts))) roman-count
-              ∙ keeps-stored (h .texts) (h .romans) [] (subst (λ bs. KeepsBlocks w (h .texts ++ bs)) (sym (append-nil (h .romans))) (holds .keeps)))
+              (ap (storedFrom w (length (textsOf h))) roman-count
+              ∙ keeps-stored (textsOf h) (h .romans) [] (subst (λ bs. KeepsBlocks w (textsOf h ++ bs)) (sym (append-nil (h .romans))) (holds .keeps)))
               (holds .text))
               a
 
@@ -164,18 +153,18 @@ module _ {w : List ℕ} {at : ℕ} {m : Marked} {h : Held} (holds : Holds w at m
             texts-read : part to n w′ ≡ filled romanMark (h .romans) (h .text)
             texts-read = let l = holds .keeps .long in appended-text romans-back (omega arith) short
 
-            kept-on : KeepsBlocks w′ (h .texts ++ h .romans)
+            kept-on : KeepsBlocks w′ (textsOf h ++ h .romans)
             kept-on =
                 let l = holds .keeps .long in
                 keeps-beyond (appended-long a) (wrote-beyond {k = blocksAt} (appended-written a (omega arith) .wrote) region) (holds .keeps)
 
-            text-count : count textMark (part to n w′) ≡ length (h .texts)
+            text-count : count textMark (part to n w′) ≡ length (textsOf h)
             text-count = ap (count textMark) texts-read ∙ text-marks-left made
 
             pub back-texts : {to′ : ℕ} → to′ + mostSymbols ≤ blocksAt → Apart to n to′ mostSymbols → Back w′ to n to′ textMark 0
             back-texts region′ apart′ =
                 let few = kept-on .short in
-                let l = length-append (h .texts) (h .romans) in
+                let l = length-append (textsOf h) (h .romans) in
                 let c = text-count in
                 record {
                   long = kept-on .long;
@@ -190,8 +179,7 @@ module _ {w : List ℕ} {at : ℕ} {m : Marked} {h : Held} (holds : Holds w at m
             pub all-back :
                 {w″ : List ℕ} {to′ n′ : ℕ} → Appended w′ w″ to′ mostSymbols 0 n′ (filled textMark (storedFrom w′ 0 (count textMark (part to n w′))) (part to n w′))
                 → Appended w′ w″ to′ mostSymbols 0 n′ (inFull h)
-            unfolding inFull
             all-back {w″} {to′} {n′} b =
                 subst (λ l. Appended w′ w″ to′ mostSymbols 0 n′ l)
-                (ap₂ (filled textMark) (ap (storedFrom w′ 0) text-count ∙ keeps-stored [] (h .texts) (h .romans) kept-on) texts-read)
+                (ap₂ (filled textMark) (ap (storedFrom w′ 0) text-count ∙ keeps-stored [] (textsOf h) (h .romans) kept-on) texts-read ∙ sym (in-full-order made))
                 b

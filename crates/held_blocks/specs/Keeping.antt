@@ -200,7 +200,7 @@ keeps-beyond {w} {w′} {bs} l beyond keeps =
       long = (let k = keeps .long in omega arith);
       block = ap (take (length (concat bs))) beyond ∙ keeps .block;
       filing =
-          ap (take (4 * length bs)) (sym (drop-drop 11264 blocksAt w′) ∙ ap (drop 11264) beyond ∙ drop-drop 11264 blocksAt w)
+          ap (take (4 * length bs)) (sym (drop-drop blocksRoom blocksAt w′) ∙ ap (drop blocksRoom) beyond ∙ drop-drop blocksRoom blocksAt w)
           ∙ keeps .filing;
       few = keeps .few;
       short = keeps .short;

@@ -1,5 +1,4 @@
 // Putting blocks back.
-ghost use mathlib.Core.Path.{_≡_};
 ghost use Prim.Native.Nat.{_+_, _≤_};
 ghost use lib.ListN.{length};
 ghost use Rattle.spec.specs.Result.{mostSymbols};
@@ -8,12 +7,12 @@ ghost use Rattle.spec.specs.Held.{filled};
 ghost use Rattle.text_symbols.specs.Parts.{part};
 ghost use Rattle.text.specs.Writer.{Room, Appended};
 ghost use Rattle.held_laws.specs.Marks.{count};
-ghost use Rattle.held_blocks.specs.Filing.{blocksAt};
+ghost use Rattle.held_blocks.specs.Filing.{blocksAt, blocksRoom};
 ghost use Rattle.held_blocks.specs.Back.{Filed, Back, storedAt, storedFrom};
 
 // Appends block k, which is found by its place.
 fn put_block(work: &mut [u8], to: usize, len: usize, k: usize) -> usize
-    requires { ⌜ Room (now work) to mostSymbols len 11264 ⌝ }
+    requires { ⌜ Room (now work) to mostSymbols len blocksRoom ⌝ }
     requires { ⌜ Filed (now work) k ⌝ }
     requires { ⌜ (leastWork ≤ length (now work)) × (to + mostSymbols ≤ blocksAt) ⌝ }
     ensures { λ r. ⌜ Appended (now (work .entry)) (now (work .exit)) to mostSymbols len r (storedAt (now (work .entry)) k) ⌝ }

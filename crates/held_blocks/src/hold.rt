@@ -1,7 +1,6 @@
 // Holding blocks out.
 use super::Marked;
 use text_search::Found;
-ghost use mathlib.Core.Path.{_≡_};
 ghost use Prim.Native.Nat.{_+_, _<_, _≤_};
 ghost use lib.ListN.{length};
 ghost use Rattle.text_symbols.specs.Parts.{part};

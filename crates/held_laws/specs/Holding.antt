@@ -1,19 +1,21 @@
 -- What is held out of a text without marks is well made. Assumes nothing.
 --     hold-texts-made, hold-both-made    in definitions, and in words
-use mathlib.Core.Path.{_≡_, refl, sym, ap, _∙_}
+--     hold-both-texts                    in words, where no `\mathrm` block is
+use mathlib.Core.Path.{_≡_, refl, sym, ap, _∙_, subst}
 use mathlib.Core.Bool.{Bool, true, false, cond}
 use mathlib.Core.List.{List, [], _∷_, _++_}
+use mathlib.Core.Option.{Option, none}
 use Prim.Native.Nat.{ℕ, suc, _+_, _≤_}
 use native.Mathlib.Omega.{arith}
 use lib.Dec.{eqb}
 use lib.ListN.{length, drop}
 use borrow.Author.Tests.{eq-eqb, eqb-true}
-use Rattle.spec.specs.Symbols.{bytes, starts, textMark, romanMark}
-use Rattle.spec.specs.Held.{Taken, takeOut, holdTexts, holdBoth}
+use Rattle.spec.specs.Symbols.{bytes, starts, contains, textMark, romanMark}
+use Rattle.spec.specs.Held.{TextBlock, Held, Taken, takeOut, enclosersOf, textBlocks, holdTexts, holdBoth}
 use Rattle.spec.specs.Laws.Booleans.{or-neither, and-parts}
-use Rattle.held_laws.specs.Marks.{hasMark, count, concat, has-mark-append}
-use Rattle.held_laws.specs.Remains.{backslash}
-use Rattle.held_laws.specs.WellMade.{Every, MarkFreeBlock, Enclosing, WellMade, count-append, unmarked-count, count-unmarked}
+use Rattle.spec.specs.Laws.Held.{hold-both-left}
+use Rattle.held_laws.specs.Marks.{backslash, hasMark, count, concat, has-mark-append}
+use Rattle.held_laws.specs.WellMade.{Every, MarkFreeBlock, Enclosing, textsOf, symbols-of, WellMade, count-append, unmarked-count, count-unmarked}
 use Rattle.held_laws.specs.TakeOut.{Turns, ended, unclosed, passing, holding, turns}
 
 -- a symbol more on both sides
@@ -107,6 +109,26 @@ romansTaken s = takeOut (bytes "\\mathrm{") romanMark 0 (textsTaken s .left)
 abbrev pub romanTurns : (s : List ℕ) → Turns (bytes "\\mathrm{") romanMark (textsTaken s .left) (romansTaken s)
 romanTurns s = turns (bytes "\\mathrm{") romanMark (textsTaken s .left)
 
+-- the same `\text` blocks are held out in definitions and in words
+pub same-texts : (s : List ℕ) → textsOf (holdBoth s) ≡ textsOf (holdTexts s)
+unfolding holdBoth holdTexts
+same-texts s = symbols-of _ (textsTaken s .blocks) ∙ sym (symbols-of [] (textsTaken s .blocks))
+
+-- where no `\mathrm` block is, nothing encloses a block
+blocks-free : (r : ℕ) (s : List ℕ) (bs : List (List ℕ)) → count romanMark s ≡ 0 → textBlocks (enclosersOf r [] s) bs ≡ textBlocks [] bs
+unfolding count enclosersOf textBlocks
+blocks-free r [] bs e = refl
+blocks-free r (x ∷ s) bs e = go (eqb x textMark) (eqb x romanMark) bs e (blocks-free r s)
+  where
+    go : (t o : Bool) (bs : List (List ℕ)) → cond o (suc (count romanMark s)) (count romanMark s) ≡ 0
+        → ((bs : List (List ℕ)) → count romanMark s ≡ 0 → textBlocks (enclosersOf r [] s) bs ≡ textBlocks [] bs)
+        → textBlocks (elim t as (λ _. List (Option ℕ)) [ true ↦ none ∷ enclosersOf r [] s | false ↦ elim o as (λ _. List (Option ℕ)) [ true ↦ enclosersOf (suc r) [] s | false ↦ enclosersOf r [] s ] ]) bs
+        ≡ textBlocks [] bs
+    go t true bs e more = absurd (omega arith)
+    go true false [] e more = refl
+    go true false (b ∷ bs) e more = ap {B = List TextBlock} (λ l. record { symbols = b; encloser = none } ∷ l) (more bs e)
+    go false false bs e more = more bs e
+
 module _ (s : List ℕ) (free : hasMark s ≡ false) where
   text-left : count textMark (textsTaken s .left) ≡ length (textsTaken s .blocks)
   text-left =
@@ -129,19 +151,41 @@ module _ (s : List ℕ) (free : hasMark s ≡ false) where
 
   pub hold-texts-made : WellMade (holdTexts s)
   unfolding holdTexts Every concat count
-  hold-texts-made = let e = text-left in record { texts = texts-plain; romans = tt; text-marks = omega arith; roman-marks = roman-left }
+  hold-texts-made =
+      let e = text-left in
+      let listed = symbols-of [] (textsTaken s .blocks) in
+      let same = ap length listed in
+      record {
+        texts = subst (Every MarkFreeBlock) (sym listed) texts-plain;
+        romans = tt;
+        text-marks = omega arith;
+        roman-marks = roman-left;
+        enclosers = ap (textBlocks []) (sym listed) ∙ sym (blocks-free 0 (textsTaken s .left) (textsOf (holdTexts s)) roman-left);
+      }
 
   pub hold-both-made : WellMade (holdBoth s)
-  unfolding holdBoth holdTexts
+  unfolding holdBoth
   hold-both-made =
       let none = roman-left in
       let all = text-left in
       let own = taken-own (bytes "\\mathrm{") romanMark (romanTurns s) in
       let most = blocks-count-within (bytes "\\mathrm{") romanMark romanMark (romanTurns s) in
       let other = taken-other (bytes "\\mathrm{") romanMark textMark refl (romanTurns s) in
+      let enclosers = enclosersOf 0 (romansTaken s .blocks) (romansTaken s .left) in
+      let listed = symbols-of enclosers (textsTaken s .blocks) in
+      let same = ap length listed in
       record {
-        texts = texts-plain;
+        texts = subst (Every MarkFreeBlock) (sym listed) texts-plain;
         romans = every-enclosing (romansTaken s .blocks) (taken-begins (bytes "mathrm{") romanMark (romanTurns s)) (omega arith);
         text-marks = omega arith;
         roman-marks = omega arith;
+        enclosers = ap (textBlocks enclosers) (sym listed);
       }
+
+  -- in a text with no `\mathrm` block, words hold out what definitions do
+  pub hold-both-texts : contains (bytes "\\mathrm{") (holdTexts s .text) ≡ false → holdBoth s ≡ holdTexts s
+  unfolding holdTexts
+  hold-both-texts e = hold-both-left s (textsTaken s) refl e ∙ ap with-texts (blocks-free 0 (textsTaken s .left) (textsTaken s .blocks) roman-left)
+    where
+      with-texts : List TextBlock → Held
+      with-texts bs = record { text = textsTaken s .left; texts = bs; romans = [] }

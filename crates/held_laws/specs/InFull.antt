@@ -1,24 +1,24 @@
 -- Held blocks in full: `\mathrm` blocks go back first, then `\text` blocks, each kind in the order of its marks. Assumes nothing.
 --     returned          block k for the first mark of a kind, block k + 1 for the next, ..
 --     filled-returned   that is what `filled` gives of a list of blocks
---     in-full-fill      where no `\mathrm` block holds a mark, the blocks go back by number
---     in-full-length    the length with held blocks in full, by counts alone
+--     in-full-order     so every block comes to its own mark
+--     in-full-length    the length with held blocks in full, by counts alone: every block once
+--     in-full-free      no mark is left
 use mathlib.Core.Path.{_≡_, refl, sym, ap, ap₂, _∙_}
-use mathlib.Core.Bool.{Bool, true, false, cond, _||_}
+use mathlib.Core.Bool.{Bool, true, false, cond}
 use mathlib.Core.List.{List, [], _∷_, _++_}
-use Prim.Native.Nat.{ℕ, zero, suc, _+_, _-_, _≤_, _<_}
-use native.Mathlib.Nat.{add-zero, add-suc, suc-add, zero-add}
+use Prim.Native.Nat.{ℕ, suc, _+_, _≤_, _<_}
+use native.Mathlib.Nat.{add-zero, add-suc, suc-add}
 use native.Mathlib.Omega.{arith}
 use lib.Dec.{eqb}
 use lib.ListN.{length, length-append}
 use borrow.Author.Tests.{eqb-true}
 use Rattle.spec.specs.Symbols.{textMark, romanMark}
-use Rattle.spec.specs.Held.{Held, filled, inFull}
-use Rattle.spec.specs.Laws.Booleans.{or-neither}
+use Rattle.spec.specs.Held.{Held, filled, inNone, enclosed, completed, inFull}
 use Rattle.spec.specs.Laws.Held.{filled-none}
-use Rattle.held_laws.specs.Marks.{isMark, hasMark, count, first, restNumbers, order, fill, blockAt, concat, not-text-mark, has-mark-append}
-use Rattle.held_laws.specs.WellMade.{WellMade, count-append, block-append, block-front}
-use Rattle.held_laws.specs.Numbering.{not-both}
+use Rattle.held_laws.specs.Marks.{hasMark, count, blockAt, concat}
+use Rattle.held_laws.specs.WellMade.{Every, Enclosing, textsOf, WellMade, count-append, unmarked-count, count-unmarked, concat-mark-free}
+use Rattle.held_laws.specs.Enclosed.{byOrder, own-marks}
 
 unfoldable pub returned : ℕ → (ℕ → List ℕ) → ℕ → List ℕ → List ℕ
 returned mark block k [] = []
@@ -47,40 +47,6 @@ filled-returned mark block (x ∷ s) (b ∷ bs) k h same = go (eqb x mark) h (fi
     go true h one other =
         ap₂ (λ x y. x ++ y) (sym (same 0 (omega arith)) ∙ ap block (add-zero k)) (one (omega arith) (λ i l. ap block (suc-add k i ∙ sym (add-suc k i)) ∙ same (suc i) (omega arith)))
     go false h one other = ap (λ l. x ∷ l) (other h same)
-
--- ---- both kinds
-returned-over : (block : ℕ → List ℕ) (k : ℕ) (x s : List ℕ) → hasMark x ≡ false → returned textMark block k (x ++ s) ≡ x ++ returned textMark block k s
-unfolding returned
-returned-over block k [] s e = refl
-returned-over block k (b ∷ x) s e =
-    let parts = or-neither (isMark b) (hasMark x) e in
-    rw (not-text-mark b (parts .0)) (ap (λ l. b ∷ l) (returned-over block k x s (parts .1)))
-
-two-kinds :
-    (block : ℕ → List ℕ) (texts : ℕ) → ((k : ℕ) → texts ≤ k → hasMark (block k) ≡ false) → (s : List ℕ) (a r : ℕ) → texts ≤ r
-    → returned textMark block a (returned romanMark block r s) ≡ fill block (order a r s) s
-unfolding returned order fill
-two-kinds block texts free [] a r h = refl
-two-kinds block texts free (b ∷ s) a r h =
-    go (eqb b textMark) refl (eqb b romanMark) refl (two-kinds block texts free s (suc a) r h) (two-kinds block texts free s a (suc r) (omega arith)) (two-kinds block texts free s a r h)
-  where
-    go : (x : Bool) → eqb b textMark ≡ x → (y : Bool) → eqb b romanMark ≡ y
-        → returned textMark block (suc a) (returned romanMark block r s) ≡ fill block (order (suc a) r s) s
-        → returned textMark block a (returned romanMark block (suc r) s) ≡ fill block (order a (suc r) s) s
-        → returned textMark block a (returned romanMark block r s) ≡ fill block (order a r s) s
-        → (let ks = cond x (a ∷ order (suc a) r s) (cond y (r ∷ order a (suc r) s) (order a r s)) in
-        returned textMark block a (cond y (block r ++ returned romanMark block (suc r) s) (b ∷ returned romanMark block r s))
-        ≡ cond (x || y) (block (first ks) ++ fill block (restNumbers ks) s) (b ∷ fill block ks s))
-    go true p true q one two same = not-both b p q
-    go true p false q one two same = rw p (ap (λ l. block a ++ l) one)
-    go false p true q one two same = returned-over block a (block r) (returned romanMark block (suc r) s) (free r h) ∙ ap (λ l. block r ++ l) two
-    go false p false q one two same = rw p (ap (λ l. b ∷ l) same)
-
-unmarked-at : (bs : List (List ℕ)) → hasMark (concat bs) ≡ false → (k : ℕ) → hasMark (blockAt bs k) ≡ false
-unfolding concat blockAt
-unmarked-at [] e k = refl
-unmarked-at (b ∷ bs) e zero = or-neither (hasMark b) (hasMark (concat bs)) (sym (has-mark-append b (concat bs)) ∙ e) .0
-unmarked-at (b ∷ bs) e (suc k) = unmarked-at bs (or-neither (hasMark b) (hasMark (concat bs)) (sym (has-mark-append b (concat bs)) ∙ e) .1) k
 
 -- ---- counts
 -- each mark gives way to a block
@@ -126,36 +92,55 @@ filled-length mark (x ∷ s) (b ∷ bs) h = go (eqb x mark) h (filled-length mar
         omega arith
     go false h one more = let e = more h in omega arith
 
+filled-own : (mark : ℕ) (s : List ℕ) (bs : List (List ℕ)) → count mark s ≡ length bs → count mark (filled mark bs s) ≡ count mark (concat bs)
+unfolding filled count concat
+filled-own mark [] [] h = refl
+filled-own mark [] (b ∷ bs) h = absurd (omega arith)
+filled-own mark (x ∷ s) [] h = h
+filled-own mark (x ∷ s) (b ∷ bs) h = go (eqb x mark) refl h (filled-own mark s bs) (filled-own mark s (b ∷ bs))
+  where
+    go : (t : Bool) → eqb x mark ≡ t → cond t (suc (count mark s)) (count mark s) ≡ suc (length bs)
+        → (count mark s ≡ length bs → count mark (filled mark bs s) ≡ count mark (concat bs))
+        → (count mark s ≡ suc (length bs) → count mark (filled mark (b ∷ bs) s) ≡ count mark (b ++ concat bs))
+        → count mark (elim t as (λ _. List ℕ) [ true ↦ b ++ filled mark bs s | false ↦ x ∷ filled mark (b ∷ bs) s ]) ≡ count mark (b ++ concat bs)
+    go true e h one more =
+        let here = one (omega arith) in
+        let x = count-append mark b (filled mark bs s) in
+        let y = count-append mark b (concat bs) in
+        omega arith
+    go false e h one more = rw e (more h)
+
+no-romans-in : (bs : List (List ℕ)) → Every Enclosing bs → count romanMark (concat bs) ≡ 0
+unfolding Every concat count
+no-romans-in [] all = refl
+no-romans-in (b ∷ bs) all = let c = count-append romanMark b (concat bs) in let here = all .0 .no-roman in let rest = no-romans-in bs (all .1) in omega arith
+
 module _ {h : Held} (made : WellMade h) where
+  pub in-full-order : inFull h ≡ byOrder (textsOf h) (h .romans) (h .text)
+  unfolding inFull
+  in-full-order =
+      ap (λ bs. filled romanMark (completed 0 bs (h .romans)) (filled textMark (enclosed inNone bs) (h .text))) (made .enclosers)
+      ∙ own-marks (h .text) 0 (textsOf h) (h .romans) (made .texts) (made .roman-marks) (made .text-marks)
+
   -- after the first kind has gone back, as many `\text` marks stand as there are `\text` blocks
-  pub text-marks-left : count textMark (filled romanMark (h .romans) (h .text)) ≡ length (h .texts)
+  pub text-marks-left : count textMark (filled romanMark (h .romans) (h .text)) ≡ length (textsOf h)
   text-marks-left = filled-count textMark romanMark refl (h .text) (h .romans) (made .roman-marks) ∙ made .text-marks
 
-  pub in-full-fill :
-      hasMark (concat (h .romans)) ≡ false
-      → inFull h ≡ fill (blockAt (h .texts ++ h .romans)) (order 0 (length (h .texts)) (h .text)) (h .text)
-  unfolding inFull
-  in-full-fill none =
-      let bs = h .texts ++ h .romans in
-      let few = made .roman-marks in
-      let all = text-marks-left in
-      let romans = filled-returned romanMark (blockAt bs) (h .text) (h .romans) (length (h .texts)) (omega arith) (λ i l. block-append (h .texts) (h .romans) i) in
-      filled-returned textMark (blockAt bs) (filled romanMark (h .romans) (h .text)) (h .texts) 0 (omega arith)
-      (λ i l. ap (blockAt bs) (zero-add i) ∙ block-front (h .texts) (h .romans) i l)
-      ∙ ap (returned textMark (blockAt bs) 0) romans
-      ∙ two-kinds (blockAt bs) (length (h .texts)) free (h .text) 0 (length (h .texts)) (omega arith)
-    where
-      free : (k : ℕ) → length (h .texts) ≤ k → hasMark (blockAt (h .texts ++ h .romans) k) ≡ false
-      free k l =
-          let e : length (h .texts) + (k - length (h .texts)) ≡ k = omega arith in
-          ap (λ n. hasMark (blockAt (h .texts ++ h .romans) n)) (sym e)
-          ∙ ap hasMark (block-append (h .texts) (h .romans) (k - length (h .texts)))
-          ∙ unmarked-at (h .romans) none (k - length (h .texts))
-
   pub in-full-length :
-      length (inFull h) + (length (h .texts) + length (h .romans)) ≡ length (h .text) + (length (concat (h .texts)) + length (concat (h .romans)))
-  unfolding inFull
+      length (inFull h) + (length (textsOf h) + length (h .romans)) ≡ length (h .text) + (length (concat (textsOf h)) + length (concat (h .romans)))
   in-full-length =
       let x = filled-length romanMark (h .text) (h .romans) (made .roman-marks) in
-      let y = filled-length textMark (filled romanMark (h .romans) (h .text)) (h .texts) text-marks-left in
+      let y = filled-length textMark (filled romanMark (h .romans) (h .text)) (textsOf h) text-marks-left in
+      let z = ap length in-full-order in
       omega arith
+
+  pub in-full-free : hasMark (inFull h) ≡ false
+  in-full-free =
+      let half = filled romanMark (h .romans) (h .text) in
+      let none = unmarked-count (concat (textsOf h)) (concat-mark-free (textsOf h) (made .texts)) in
+      let a = filled-own textMark half (textsOf h) text-marks-left in
+      let b = filled-count romanMark textMark refl half (textsOf h) text-marks-left in
+      let c = filled-own romanMark (h .text) (h .romans) (made .roman-marks) in
+      let d = no-romans-in (h .romans) (made .romans) in
+      let e = none .1 in
+      ap hasMark in-full-order ∙ count-unmarked (filled textMark (textsOf h) half) (a ∙ none .0) (omega arith)

@@ -6,6 +6,7 @@
 use mathlib.Core.Path.{_≡_, refl, sym, ap, ap₂, _∙_, subst}
 use mathlib.Core.Bool.{Bool, true, false, not, cond, _&&_, _||_, false≢true, and-false, and-true}
 use mathlib.Core.List.{List, [], _∷_, _++_}
+use mathlib.Core.Option.{Option, none, some, Option·getD}
 use Prim.Native.Nat.{ℕ, _<_}
 use native.Mathlib.Omega.{arith}
 use lib.Dec.{eqb, leb, ltb}
@@ -15,11 +16,14 @@ use Rattle.spec.specs.Symbols.{is, digit, letter, alnum, wordly, foreign, head,
 use Rattle.spec.specs.Sweep.{Rule, sweep, replacing}
 use Rattle.spec.specs.Result.{Result, passed, refused, _then_, mostSymbols}
 use Rattle.spec.specs.Held.{Held, withText, inFull, heldStage}
-use Rattle.spec.specs.Table.{Definition, faultyName, faultyLatex, faulty, named as named-twice, Rearranged, nothing, put}
+use Rattle.spec.specs.Table.{Definition, faultyName, faultyLatex, faulty, named as named-twice, definitions, inOrder, Rearranged, nothing, put}
 use Rattle.spec.specs.Definitions.{defined, applyDefinition, applyDefinitions}
 use Rattle.spec.specs.Rows.{Row, greekLetters, wordMappings}
 use Rattle.spec.specs.Words.{greek, word, literal, wordOrLiteral, heldRows}
+use Rattle.spec.specs.Pipeline.{definitionsOr}
 use Rattle.spec.specs.Laws.Booleans.{or-neither, and-parts}
+use Rattle.spec.specs.Laws.Order.{rearranged-in-order}
+use Rattle.spec.specs.Laws.Table.{definitions-some}
 use Rattle.held_laws.specs.Marks.{isMark, hasMark}
 use Rattle.held_laws.specs.WellMade.{WellMade}
 use Rattle.held_laws.specs.Rewriting.{Name, Between, sweep-made}
@@ -34,7 +38,7 @@ unmarked f t r x e = go (eqb x textMark) refl (eqb x romanMark) refl
     go false p true u = absurd (false≢true (sym e ∙ ap f (eqb-true x romanMark u) ∙ r))
     go false p false u = refl
 
-any-unmarked : (f : ℕ → Bool) → f textMark ≡ true → f romanMark ≡ true → (s : List ℕ) → any f s ≡ false → hasMark s ≡ false
+pub any-unmarked : (f : ℕ → Bool) → f textMark ≡ true → f romanMark ≡ true → (s : List ℕ) → any f s ≡ false → hasMark s ≡ false
 any-unmarked f t r [] e = refl
 any-unmarked f t r (x ∷ s) e =
     let both = or-neither (f x) (any f s) e in
@@ -196,7 +200,7 @@ stage-made f h {g} k e = go (ltb mostSymbols (length (inFull (withText h (f (h .
     go false e = e
 
 -- the records of a table that number 3 lets pass are sound, in whatever order
-pub sound-table : (ds : List Definition) → faulty ds ≡ false → EverySound ds
+sound-table : (ds : List Definition) → faulty ds ≡ false → EverySound ds
 unfolding faulty EverySound
 sound-table [] e = tt
 sound-table (d ∷ ds) e =
@@ -209,10 +213,22 @@ unfolding EverySound
 sound-put d [] fs one all = (one, all)
 sound-put d (e ∷ es) fs one all = (all .0, sound-put d es fs one (all .1))
 
-pub sound-order : {ds order : List Definition} → Rearranged ds order → EverySound ds → EverySound order
+sound-order : {ds order : List Definition} → Rearranged ds order → EverySound ds → EverySound order
 unfolding EverySound
 sound-order nothing all = all
 sound-order (put d es fs r) all = sound-put d es fs (all .0) (sound-order r (all .1))
+
+pub order-sound : (table : List ℕ) (ds : List Definition) → definitions table ≡ some ds → EverySound (inOrder ds)
+order-sound table ds e = sound-order (rearranged-in-order ds) (sound-table ds (definitions-some table ds e .1))
+
+-- a table that is refused has no definitions
+pub table-sound : (table : List ℕ) → EverySound (inOrder (definitionsOr table))
+unfolding EverySound inOrder
+table-sound table = go (definitions table) refl
+  where
+    go : (o : Option (List Definition)) → definitions table ≡ o → EverySound (inOrder (Option·getD o []))
+    go none e = tt
+    go (some ds) e = order-sound table ds e
 
 pub definitions-made : (ds : List Definition) → EverySound ds → {h g : Held} → WellMade h → applyDefinitions ds h ≡ passed g → WellMade g
 unfolding applyDefinitions EverySound applyDefinition

@@ -1,22 +1,11 @@
--- Laws about held blocks, on `spec` alone: their marks, holding out and putting back, what the Rust loses, and stages around them.
-pub mod Decimal
+-- Laws about held blocks, on `spec` alone: their marks, holding out and putting back, and stages around them.
 pub mod Marks
-pub mod Replacing
-pub mod Broken
-pub mod Remains
-pub mod Losing
-pub mod Round
-pub mod Agree
-pub mod Stored
-pub mod Neat
-pub mod Numeral
-pub mod Noted
 pub mod WellMade
-pub mod Numbering
+pub mod Enclosed
 pub mod InFull
-pub mod PutBack
 pub mod TakeOut
 pub mod Holding
 pub mod Rewriting
 pub mod Instances
+pub mod Kept
 pub mod Limits

@@ -1,7 +1,7 @@
 -- How much room the blocks of a text take, and that held blocks in full are the text again. Assumes nothing.
 --     texts-few, both-few        blocks of a text of 8,192 symbols take at most 9,362 bytes and 4,680 bytes of places
 --     hold-texts-full, hold-both-full    what was held out, with its blocks in full, is the text
-use mathlib.Core.Path.{_≡_, refl, sym, ap, _∙_}
+use mathlib.Core.Path.{_≡_, refl, sym, ap, ap₂, _∙_}
 use mathlib.Core.Bool.{Bool, true, false, cond}
 use mathlib.Core.List.{List, [], _∷_, _++_}
 use mathlib.Core.Option.{some}
@@ -18,11 +18,11 @@ use Rattle.spec.specs.Laws.Symbols.{starts-long, starts-split}
 use Rattle.spec.specs.Closing.{findMatchingBrace}
 use Rattle.spec.specs.Held.{Taken, holdTexts, holdBoth, filled, inFull}
 use Rattle.spec.specs.Laws.Held.{filled-none}
-use Rattle.held_laws.specs.Marks.{hasMark, count, concat}
-use Rattle.held_laws.specs.WellMade.{count-append, concat-append, unmarked-count}
+use Rattle.held_laws.specs.Marks.{hasMark, count, concat, not-both}
+use Rattle.held_laws.specs.WellMade.{symbols-of, count-append, concat-append, unmarked-count}
 use Rattle.held_laws.specs.TakeOut.{close-suffix, Turns, ended, unclosed, passing, holding}
-use Rattle.held_laws.specs.Holding.{taken-other, taken-own, blocks-count-within, textsTaken, textTurns, romansTaken, romanTurns, roman-left}
-use Rattle.held_laws.specs.Numbering.{not-both}
+use Rattle.held_laws.specs.Holding.{taken-other, taken-own, blocks-count-within, textsTaken, textTurns, romansTaken, romanTurns, roman-left, hold-texts-made, hold-both-made}
+use Rattle.held_laws.specs.InFull.{in-full-order}
 
 -- ---- counts and lengths
 count-most : (c : ℕ) (s : List ℕ) → count c s ≤ length s
@@ -131,20 +131,21 @@ module _ (name : List ℕ) (mark : ℕ) where
 -- ---- both hold-outs
 module _ (s : List ℕ) (free : hasMark s ≡ false) where
   pub hold-texts-full : inFull (holdTexts s) ≡ s
-  unfolding inFull holdTexts
+  unfolding holdTexts
   hold-texts-full =
-      ap (filled textMark (textsTaken s .blocks)) (filled-none romanMark (textsTaken s .left))
+      in-full-order (hold-texts-made s free)
+      ∙ ap₂ (filled textMark) (symbols-of [] (textsTaken s .blocks)) (filled-none romanMark (textsTaken s .left))
       ∙ taken-filled (bytes "\\text{") textMark (unmarked-count s free .0) (textTurns s)
 
   pub hold-both-full : inFull (holdBoth s) ≡ s
-  unfolding inFull holdBoth holdTexts
+  unfolding holdBoth
   hold-both-full =
-      ap (filled textMark (textsTaken s .blocks)) (taken-filled (bytes "\\mathrm{") romanMark (roman-left s free) (romanTurns s))
+      in-full-order (hold-both-made s free)
+      ∙ ap₂ (filled textMark) (symbols-of _ (textsTaken s .blocks)) (taken-filled (bytes "\\mathrm{") romanMark (roman-left s free) (romanTurns s))
       ∙ taken-filled (bytes "\\text{") textMark (unmarked-count s free .0) (textTurns s)
 
   module _ (short : length s ≤ mostSymbols) where
-    pub texts-few : (length (concat (holdTexts s .texts)) ≤ mostSymbols) × (4 * length (holdTexts s .texts) ≤ 4680)
-    unfolding holdTexts
+    pub texts-few : (length (concat (textsTaken s .blocks)) ≤ mostSymbols) × (4 * length (textsTaken s .blocks) ≤ 4680)
     texts-few =
         let l = taken-length (bytes "\\text{") textMark (textTurns s) in
         let m = taken-long (bytes "\\text{") textMark (omega arith) (textTurns s) in
@@ -163,7 +164,7 @@ module _ (s : List ℕ) (free : hasMark s ≡ false) where
         omega arith
 
     pub both-short : length (holdBoth s .text) ≤ mostSymbols
-    unfolding holdBoth holdTexts
+    unfolding holdBoth
     both-short =
         let l = taken-length (bytes "\\text{") textMark (textTurns s) in
         let m = taken-long (bytes "\\text{") textMark (omega arith) (textTurns s) in
@@ -171,8 +172,8 @@ module _ (s : List ℕ) (free : hasMark s ≡ false) where
         let m′ = taken-long (bytes "\\mathrm{") romanMark (omega arith) (romanTurns s) in
         omega arith
 
-    pub both-few : (length (concat (holdBoth s .texts ++ holdBoth s .romans)) ≤ 9362) × (4 * length (holdBoth s .texts ++ holdBoth s .romans) ≤ 4680)
-    unfolding holdBoth holdTexts count
+    pub both-few : (length (concat (textsTaken s .blocks ++ romansTaken s .blocks)) ≤ 9362) × (4 * length (textsTaken s .blocks ++ romansTaken s .blocks) ≤ 4680)
+    unfolding count
     both-few =
         let l = taken-length (bytes "\\text{") textMark (textTurns s) in
         let m = taken-long (bytes "\\text{") textMark (omega arith) (textTurns s) in

@@ -7,19 +7,21 @@
 use mathlib.Core.Path.{_≡_, refl, sym, ap, ap₂, _∙_}
 use mathlib.Core.Bool.{Bool, true, false, cond, _&&_, _||_, false≢true}
 use mathlib.Core.List.{List, [], _∷_, _++_}
+use mathlib.Core.Option.{Option, none, some}
 use Prim.Native.Nat.{ℕ, zero, suc, pred}
 use native.Mathlib.Omega.{arith}
 use lib.Dec.{eqb}
-use lib.ListN.{length, take, drop, take-append-drop}
+use lib.ListN.{length, take, drop, replicate, take-append-drop}
 use lib.Seq.{take-append-seam}
 use borrow.Author.Tests.{eqb-true}
 use Rattle.spec.specs.Symbols.{digit, head, starts, textMark, romanMark}
 use Rattle.spec.specs.Sweep.{Rule, kept, taken, sweep}
-use Rattle.spec.specs.Held.{Held, withText}
+use Rattle.spec.specs.Held.{Held, marks, enclosersOf, textBlocks, withText}
 use Rattle.spec.specs.Laws.Booleans.{or-neither}
 use Rattle.spec.specs.Laws.Symbols.{starts-split}
 use Rattle.held_laws.specs.Marks.{isMark, hasMark, count, has-mark-append}
-use Rattle.held_laws.specs.WellMade.{WellMade}
+use Rattle.held_laws.specs.WellMade.{textsOf, WellMade}
+use Rattle.held_laws.specs.Enclosed.{enclosers-text, enclosers-roman, enclosers-other}
 
 pub record Name (w : List ℕ) : Type 0 where
   pub start : ℕ
@@ -76,6 +78,22 @@ count-marks c mark (b ∷ s) = go (isMark b) refl (eqb b c) refl (count-marks c 
     go true p false q e = rw q e
     go false p true q e = absurd (false≢true (sym p ∙ ap isMark (eqb-true b c q) ∙ mark))
     go false p false q e = e
+
+-- what encloses a block is told by the marks alone
+enclosers-marks : (s : List ℕ) (romans : List (List ℕ)) (r : ℕ) → enclosersOf r romans (marksOf s) ≡ enclosersOf r romans s
+unfolding marksOf enclosersOf
+enclosers-marks [] romans r = refl
+enclosers-marks (x ∷ s) romans r = go (eqb x textMark) refl (eqb x romanMark) refl romans (enclosers-marks s)
+  where
+    go : (t : Bool) → eqb x textMark ≡ t → (o : Bool) → eqb x romanMark ≡ o → (romans : List (List ℕ))
+        → ((romans : List (List ℕ)) (r : ℕ) → enclosersOf r romans (marksOf s) ≡ enclosersOf r romans s)
+        → enclosersOf r romans (cond (t || o) (x ∷ marksOf s) (marksOf s)) ≡ enclosersOf r romans (x ∷ s)
+    go true t o p romans more =
+        enclosers-text r x (marksOf s) romans t ∙ ap {B = List (Option ℕ)} (λ l. none ∷ l) (more romans r) ∙ sym (enclosers-text r x s romans t)
+    go false t true p [] more = rw (t, enclosersOf, p) (more [] (suc r))
+    go false t true p (b ∷ bs) more =
+        enclosers-roman r x (marksOf s) b bs t p ∙ ap (λ l. replicate (marks b) (some r) ++ l) (more bs (suc r)) ∙ sym (enclosers-roman r x s b bs t p)
+    go false t false p romans more = more romans r ∙ sym (enclosers-other r x s romans t p)
 
 -- ---- a sweep that writes the marks that it takes
 module _ (rule : Rule) (even : (before x : ℕ) (s : List ℕ) → marksOf (rule before (x ∷ s) .fresh) ≡ marksOf (take (suc (rule before (x ∷ s) .more)) (x ∷ s))) where
@@ -143,4 +161,5 @@ module _ {rule : Rule} (between : Between rule) where
       let t = sweep-count textMark refl (h .text) in
       let r = sweep-count romanMark refl (h .text) in
       let all = made .text-marks in
-      record { texts = made .texts; romans = made .romans; text-marks = omega arith; roman-marks = r ∙ made .roman-marks }
+      let e = sym (enclosers-marks (sweep rule 0 0 (h .text)) (h .romans) 0) ∙ ap (enclosersOf 0 (h .romans)) (sweep-marks (h .text)) ∙ enclosers-marks (h .text) (h .romans) 0 in
+      record { texts = made .texts; romans = made .romans; text-marks = omega arith; roman-marks = r ∙ made .roman-marks; enclosers = made .enclosers ∙ ap (λ es. textBlocks es (textsOf h)) (sym e) }

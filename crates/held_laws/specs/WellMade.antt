@@ -1,22 +1,20 @@
 -- What is held: the marks of a text and of its `\mathrm` blocks are as many as its blocks. Assumes nothing.
 --     MarkFreeBlock, Enclosing   what a `\text` block and a `\mathrm` block are
+--     textsOf                    the `\text` blocks without their enclosers
 --     WellMade                   what holding out gives, and what rewriting between the marks keeps
---     lost                       the Rust loses a block: a `\mathrm` block holds a mark, or a typed number is taken for a block
 use mathlib.Core.Path.{_≡_, refl, sym, ap, ap₂, _∙_}
-use mathlib.Core.Bool.{Bool, true, false, cond, _||_, false≢true}
+use mathlib.Core.Bool.{Bool, true, false, cond, _||_}
 use mathlib.Core.List.{List, [], _∷_, _++_, append-assoc}
-use Prim.Native.Nat.{ℕ, zero, suc, _+_, _≤_, _<_}
+use mathlib.Core.Option.{Option}
+use Prim.Native.Nat.{ℕ, zero, suc, _+_, _<_}
 use native.Mathlib.Nat.{not-suc-le-zero, suc-add}
 use native.Mathlib.Omega.{arith}
 use lib.Dec.{eqb}
 use lib.ListN.{length, drop}
 use Rattle.spec.specs.Symbols.{textMark, romanMark}
-use Rattle.spec.specs.Held.{Held, marks}
+use Rattle.spec.specs.Held.{TextBlock, Held, marks, enclosersOf, textBlocks}
 use Rattle.spec.specs.Laws.Booleans.{or-neither}
-use Rattle.spec.specs.Laws.Held.{unheld}
-use Rattle.held_laws.specs.Marks.{isMark, hasMark, count, order, blockAt, concat, has-mark-append}
-use Rattle.held_laws.specs.Remains.{backslash}
-use Rattle.held_laws.specs.Noted.{noted}
+use Rattle.held_laws.specs.Marks.{backslash, isMark, hasMark, count, blockAt, concat, has-mark-append}
 
 unfoldable pub Every : (List ℕ → Type 0) → List (List ℕ) → Type 0
 Every P [] = Unit {0}
@@ -31,15 +29,25 @@ pub record Enclosing (b : List ℕ) : Type 0 where
   pub begins : b ≡ backslash ∷ drop 1 b
   pub no-roman : count romanMark b ≡ 0
 
-pub record WellMade (h : Held) : Type 0 where
-  pub texts : Every MarkFreeBlock (h .texts)
-  pub romans : Every Enclosing (h .romans)
-  pub text-marks : count textMark (h .text) + count textMark (concat (h .romans)) ≡ length (h .texts)
-  pub roman-marks : count romanMark (h .text) ≡ length (h .romans)
+unfoldable pub symbolsOf : List TextBlock → List (List ℕ)
+symbolsOf [] = []
+symbolsOf (b ∷ bs) = b .symbols ∷ symbolsOf bs
 
--- tested mark by mark: behind the mark of block k stands a number t, and then the mark of block j, with t < k and t ≤ j
-unfoldable pub lost : Held → Bool
-lost h = hasMark (concat (h .romans)) || noted (order 0 (length (h .texts)) (h .text)) (h .text)
+abbrev pub textsOf : Held → List (List ℕ)
+textsOf h = symbolsOf (h .texts)
+
+pub symbols-of : (es : List (Option ℕ)) (bs : List (List ℕ)) → symbolsOf (textBlocks es bs) ≡ bs
+unfolding symbolsOf textBlocks
+symbols-of es [] = refl
+symbols-of [] (b ∷ bs) = ap (λ l. b ∷ l) (symbols-of [] bs)
+symbols-of (e ∷ es) (b ∷ bs) = ap (λ l. b ∷ l) (symbols-of es bs)
+
+pub record WellMade (h : Held) : Type 0 where
+  pub texts : Every MarkFreeBlock (textsOf h)
+  pub romans : Every Enclosing (h .romans)
+  pub text-marks : count textMark (h .text) + count textMark (concat (h .romans)) ≡ length (textsOf h)
+  pub roman-marks : count romanMark (h .text) ≡ length (h .romans)
+  pub enclosers : h .texts ≡ textBlocks (enclosersOf 0 (h .romans) (h .text)) (textsOf h)
 
 -- ---- counting
 pub count-append : (m : ℕ) (x y : List ℕ) → count m (x ++ y) ≡ count m x + count m y
@@ -81,10 +89,6 @@ count-unmarked (b ∷ s) e f = go (eqb b textMark) (eqb b romanMark) (count-unma
     go false true more e f = absurd (omega arith)
     go false false more e f = more e f
 
--- where no block is held, the text has no mark
-pub unheld-unmarked : (s : List ℕ) → WellMade (unheld s) → hasMark s ≡ false
-unheld-unmarked s made = count-unmarked s (let few = made .text-marks in omega arith) (made .roman-marks)
-
 -- ---- lists of blocks
 pub concat-append : (bs cs : List (List ℕ)) → concat (bs ++ cs) ≡ concat bs ++ concat cs
 unfolding concat
@@ -106,16 +110,3 @@ unfolding blockAt
 block-front [] cs k h = absurd (not-suc-le-zero h)
 block-front (b ∷ bs) cs zero h = refl
 block-front (b ∷ bs) cs (suc k) h = block-front bs cs k (omega arith)
-
--- a block with a mark is one of the second list, where those of the first have none
-marked-within : (bs : List (List ℕ)) (k : ℕ) → hasMark (blockAt bs k) ≡ true → k < length bs
-unfolding blockAt
-marked-within [] k e = absurd (false≢true e)
-marked-within (b ∷ bs) zero e = omega arith
-marked-within (b ∷ bs) (suc k) e = let l = marked-within bs k e in omega arith
-
-pub marked-range : (bs cs : List (List ℕ)) → Every MarkFreeBlock bs → (k : ℕ) → hasMark (blockAt (bs ++ cs) k) ≡ true → (length bs ≤ k) × (k < length bs + length cs)
-unfolding blockAt Every
-marked-range [] cs h k e = let l = marked-within cs k e in (omega arith, omega arith)
-marked-range (b ∷ bs) cs h zero e = absurd (false≢true (sym (h .0 .mark-free) ∙ e))
-marked-range (b ∷ bs) cs h (suc k) e = let l = marked-range bs cs (h .1) k e in let low = l .0 in let high = l .1 in (omega arith, omega arith)

@@ -16,11 +16,12 @@ use lib.Seq.{drop-append-seam}
 use borrow.Author.Tests.{ne-eqb, eqb-true, eqb-false, le-leb}
 use Rattle.spec.specs.Symbols.{digit, head, starts, textMark, romanMark}
 use Rattle.spec.specs.Sweep.{Turn, Rule, kept, taken, sweep}
-use Rattle.spec.specs.Held.{placeholder}
 use Rattle.spec.specs.Laws.Booleans.{or-neither}
 use Rattle.spec.specs.Laws.Symbols.{starts-split, starts-unequal}
-use Rattle.held_laws.specs.Decimal.{decimal, Digits, decimal-digits}
-use Rattle.held_laws.specs.Marks.{isMark, hasMark, first, restNumbers, fill}
+use Rattle.held_placeholders.specs.Numbered.{placeholder}
+use Rattle.held_placeholders.specs.Decimal.{decimal, Digits, decimal-digits}
+use Rattle.held_laws.specs.Marks.{isMark, hasMark}
+use Rattle.held_placeholders.specs.Fill.{first, restNumbers, fill}
 use Rattle.held_laws.specs.Rewriting.{Between}
 use Rattle.held_placeholders.specs.Finding.{Lacks}
 

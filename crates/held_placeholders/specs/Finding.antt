@@ -11,9 +11,10 @@ use lib.Dec.{eqb}
 use borrow.Author.Tests.{ne-eqb}
 use Rattle.spec.specs.Symbols.{starts, find, textMark}
 use Rattle.spec.specs.Laws.Symbols.{find-past, starts-unequal, starts-long}
-use Rattle.spec.specs.Held.{placeholder}
 use Rattle.spec.specs.Laws.Ends.{starts-front}
-use Rattle.held_laws.specs.Remains.{backslash, Narrow, narrow-placeholder}
+use Rattle.held_laws.specs.Marks.{backslash}
+use Rattle.held_placeholders.specs.Numbered.{placeholder}
+use Rattle.held_placeholders.specs.Remains.{Narrow, narrow-placeholder}
 
 unfoldable pub Lacks : ℕ → List ℕ → Type 0
 Lacks c [] = Unit {0}

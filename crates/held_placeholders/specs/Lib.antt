@@ -1,4 +1,17 @@
--- The Rust's numbered placeholders, and that marks and lists are the same.
+-- The Rust's numbered placeholders, and that its put-back is every block at its own mark wherever it loses none.
+pub mod Numbered
+pub mod Fill
+pub mod Decimal
+pub mod Replacing
+pub mod Broken
+pub mod Remains
+pub mod Losing
+pub mod Round
+pub mod Agree
+pub mod Stored
+pub mod Numbering
+pub mod ByNumber
+pub mod PutBack
 pub mod Placeholders
 pub mod Finding
 pub mod OneName
@@ -8,3 +21,4 @@ pub mod Romans
 pub mod Literal
 pub mod Commutes
 pub mod Whole
+pub mod Before

@@ -17,11 +17,11 @@ use lib.Seq.{drop-append-seam}
 use borrow.Author.Tests.{eqb-true, eqb-false, ne-eqb}
 use Rattle.spec.specs.Symbols.{starts, textMark, romanMark}
 use Rattle.spec.specs.Closing.{Side, opens, closes, neither, side, sideOf, close}
-use Rattle.spec.specs.Held.{placeholder, marks, numbered, numberedRomans}
+use Rattle.spec.specs.Held.{marks}
 use Rattle.spec.specs.Laws.Symbols.{starts-split, starts-unequal}
-use Rattle.spec.specs.Laws.Held.{romans-none}
 use Rattle.held_laws.specs.Marks.{count}
-use Rattle.held_laws.specs.Remains.{Narrow, narrow-placeholder}
+use Rattle.held_placeholders.specs.Numbered.{placeholder, numbered, numberedRomans, romans-none}
+use Rattle.held_placeholders.specs.Remains.{Narrow, narrow-placeholder}
 use Rattle.held_laws.specs.InFull.{returned}
 use Rattle.held_laws.specs.TakeOut.{theText}
 use Rattle.held_placeholders.specs.Finding.{Lacks}

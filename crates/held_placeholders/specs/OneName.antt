@@ -14,12 +14,12 @@ use lib.ListN.{length, drop, length-append}
 use Rattle.spec.specs.Symbols.{until, starts, find, textMark}
 use Rattle.spec.specs.Laws.Symbols.{find-here, until-append}
 use Rattle.spec.specs.Closing.{findMatchingBrace}
-use Rattle.spec.specs.Held.{Taken, placeholder}
+use Rattle.spec.specs.Held.{Taken}
 use Rattle.spec.specs.Laws.Booleans.{or-neither}
-use Rattle.held_laws.specs.Marks.{isMark, hasMark, not-text-mark, has-mark-append}
-use Rattle.held_laws.specs.Remains.{backslash}
+use Rattle.held_laws.specs.Marks.{backslash, isMark, hasMark, not-text-mark, has-mark-append}
 use Rattle.held_laws.specs.InFull.{returned}
 use Rattle.held_laws.specs.TakeOut.{Turns, ended, unclosed, passing, holding}
+use Rattle.held_placeholders.specs.Numbered.{placeholder}
 use Rattle.held_placeholders.specs.Placeholders.{PlaceholderText, placed, closedBlock, foundAt, firstBlock, orNext, firstBlockOf, heldOne, turned}
 use Rattle.held_placeholders.specs.Finding.{Lacks, AbsentBefore, passed-find, absent-before-more, passed-placeholder}
 

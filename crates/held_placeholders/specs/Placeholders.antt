@@ -13,11 +13,12 @@ use lib.ListN.{length, drop}
 use Rattle.spec.specs.Symbols.{bytes, until, find, textMark}
 use Rattle.spec.specs.Sweep.{Rule, sweep, replace}
 use Rattle.spec.specs.Closing.{close, findMatchingBrace}
-use Rattle.spec.specs.Held.{up, counted, placeholder, restored}
+use Rattle.spec.specs.Program.{up, counted}
 use Rattle.spec.specs.Table.{Definition, inOrder}
 use Rattle.spec.specs.Definitions.{applyDefinition}
 use Rattle.spec.specs.Rows.{Row, greekLetters, wordMappings}
 use Rattle.spec.specs.Words.{greek, wordOrLiteral}
+use Rattle.held_placeholders.specs.Numbered.{placeholder, restored}
 
 abbrev pub textNames : List (List ℕ)
 textNames = bytes "\\text{" ∷ []

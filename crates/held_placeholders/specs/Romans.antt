@@ -13,12 +13,12 @@ use borrow.Author.Tests.{eqb-true}
 use Rattle.spec.specs.Symbols.{bytes, starts, find, textMark, romanMark}
 use Rattle.spec.specs.Closing.{findMatchingBrace}
 use Rattle.spec.specs.Laws.Symbols.{starts-long, starts-split}
-use Rattle.spec.specs.Held.{Taken, leaving, taking, placeholder, marks, numbered, numberedRomans}
-use Rattle.spec.specs.Laws.Held.{romans-none}
+use Rattle.spec.specs.Held.{Taken, leaving, taking, marks}
 use Rattle.held_laws.specs.Marks.{count}
 use Rattle.held_laws.specs.WellMade.{count-append, marks-count}
 use Rattle.held_laws.specs.InFull.{returned}
 use Rattle.held_laws.specs.TakeOut.{Turns, ended, unclosed, passing, holding}
+use Rattle.held_placeholders.specs.Numbered.{placeholder, numbered, numberedRomans, romans-none}
 use Rattle.held_placeholders.specs.Placeholders.{bothNames, PlaceholderText, placed, firstBlock, orNext, firstBlockOf, heldOne}
 use Rattle.held_placeholders.specs.Finding.{Lacks, AbsentBefore, absent-before-more, passed-placeholder}
 use Rattle.held_placeholders.specs.OneName.{block-missing, block-unclosed, block-found, Reaches, reaches-now, reaches-one}

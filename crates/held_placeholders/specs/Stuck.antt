@@ -16,8 +16,9 @@ use lib.Seq.{drop-append-le}
 use Rattle.spec.specs.Symbols.{bytes, starts, find, textMark}
 use Rattle.spec.specs.Laws.Symbols.{find-here, find-past, starts-long, starts-split, starts-unequal}
 use Rattle.spec.specs.Closing.{Side, opens, closes, neither, side, close, findMatchingBrace}
-use Rattle.spec.specs.Held.{placeholder}
-use Rattle.held_laws.specs.Remains.{backslash, narrow-placeholder}
+use Rattle.held_laws.specs.Marks.{backslash}
+use Rattle.held_placeholders.specs.Numbered.{placeholder}
+use Rattle.held_placeholders.specs.Remains.{narrow-placeholder}
 use Rattle.held_laws.specs.TakeOut.{theText}
 use Rattle.held_placeholders.specs.Placeholders.{Block, closedBlock, foundAt, firstBlock}
 use Rattle.held_placeholders.specs.Finding.{Lacks, starts-stop, passed-find, narrow-passed}

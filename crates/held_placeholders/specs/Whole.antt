@@ -1,8 +1,8 @@
--- Number 6 is the Rust's lost block: where no stage has grown too long, the put-back of what is held is the Rust's put-back of its own placeholders,
--- in definitions and in words. Assumes nothing.
+-- Definitions and words as the Rust has them: where no stage has grown too long and the Rust's own put-back leaves no mark, the text is the Rust's.
+-- Assumes nothing.
 --     placedOf               what is held, as the Rust has it
 --     definitions-literal, words-literal    the Rust's text, from its own hold-out on
---     definitions-answer, words-answer      so number 6 and the text are the Rust's
+--     definitions-own, words-own            so the answer is the Rust's text, where no mark is left in it
 use mathlib.Core.Path.{_≡_, refl, sym, ap, ap₂, _∙_}
 use mathlib.Core.Bool.{Bool, true, false, cond, _||_}
 use mathlib.Core.List.{List, [], _∷_, _++_, append-nil}
@@ -12,26 +12,30 @@ use lib.ListN.{length}
 use borrow.Author.Tests.{eqb-true}
 use Rattle.spec.specs.Symbols.{textMark, romanMark}
 use Rattle.spec.specs.Sweep.{Rule, sweep}
-use Rattle.spec.specs.Result.{Result, passed, refused, _then_}
-use Rattle.spec.specs.Held.{Held, withText, holdTexts, holdBoth, heldStage, placeholder, marks, numbered, numberedRomans, restored, rustPutBack, putBack}
+use Rattle.spec.specs.Result.{Result, passed, _then_}
+use Rattle.spec.specs.Held.{Held, withText, holdTexts, holdBoth, heldStage, marks, putBack}
 use Rattle.spec.specs.Table.{Definition, inOrder}
 use Rattle.spec.specs.Definitions.{applyDefinition, applyDefinitions, applyDefinitionsOutsideText}
 use Rattle.spec.specs.Rows.{Row, greekLetters, wordMappings}
 use Rattle.spec.specs.Words.{greek, wordOrLiteral, heldRows, convertWords}
 use Rattle.spec.specs.Laws.Booleans.{and-parts}
-use Rattle.spec.specs.Laws.Held.{romans-none}
-use Rattle.held_laws.specs.Marks.{hasMark, fill}
-use Rattle.held_laws.specs.Broken.{marked}
-use Rattle.held_laws.specs.Numbering.{numbers, numbered-fill, not-both}
+use Rattle.held_laws.specs.Marks.{hasMark, not-both}
+use Rattle.held_laws.specs.WellMade.{textsOf}
+use Rattle.held_placeholders.specs.Numbered.{placeholder, numbered, numberedRomans, restored, rustPutBack, romans-none}
+use Rattle.held_placeholders.specs.Fill.{fill}
+use Rattle.held_placeholders.specs.Broken.{marked}
+use Rattle.held_placeholders.specs.Numbering.{numbers, numbered-fill}
+use Rattle.held_placeholders.specs.PutBack.{rust-own}
 use Rattle.held_laws.specs.Rewriting.{Between, marksOf, sweep-marks}
-use Rattle.held_laws.specs.Instances.{EverySound, defined-between, fineRow, fineRows, greek-fine, words-fine, greek-between, word-between, passed-one, stage-made}
-use Rattle.held_placeholders.specs.Placeholders.{textNames, bothNames, PlaceholderText, placed, holdOut, definedAll, rustDefinitions, rewrittenAll, rustWords}
+use Rattle.held_laws.specs.Instances.{EverySound, defined-between, fineRow, fineRows, greek-fine, words-fine, greek-between, word-between, passed-one, stage-made, definitions-made, rows-made}
+use Rattle.held_laws.specs.Holding.{hold-texts-made, hold-both-made}
+use Rattle.held_placeholders.specs.Placeholders.{textNames, PlaceholderText, placed, holdOut, definedAll, rustDefinitions, rewrittenAll, rustWords}
 use Rattle.held_placeholders.specs.Numbers.{romans-plain, romans-text}
 use Rattle.held_placeholders.specs.Literal.{texts-held, both-held}
 use Rattle.held_placeholders.specs.Commutes.{sweep-fill}
 
 abbrev pub placedOf : Held → PlaceholderText
-placedOf h = placed (numbered (h .romans) 0 (length (h .texts)) (h .text)) (h .texts ++ numberedRomans (h .romans) 0 (h .text))
+placedOf h = placed (numbered (h .romans) 0 (length (textsOf h)) (h .text)) (textsOf h ++ numberedRomans (h .romans) 0 (h .text))
 
 -- ---- the numbers are those of the marks alone
 numbers-marks : (s : List ℕ) (romans : List (List ℕ)) (t r : ℕ) → numbers romans t r s ≡ numbers romans t r (marksOf s)
@@ -93,7 +97,7 @@ module _ {rule : Rule} (between : Between rule) where
 
   placed-sweep : (h : Held) → placedOf (withText h (sweep rule 0 0 (h .text))) ≡ placed (sweep rule 0 0 (placedOf h .text)) (placedOf h .blocks)
   placed-sweep h =
-      ap₂ placed (numbered-sweep (h .romans) 0 (length (h .texts)) (h .text)) (ap (λ l. h .texts ++ l) (romans-sweep (h .romans) 0 (h .text)))
+      ap₂ placed (numbered-sweep (h .romans) 0 (length (textsOf h)) (h .text)) (ap (λ l. textsOf h ++ l) (romans-sweep (h .romans) 0 (h .text)))
 
 -- ---- definitions
 placed-definitions :
@@ -115,19 +119,18 @@ module _ (ds : List Definition) (sound : EverySound (inOrder ds)) (s : List ℕ)
   pub definitions-literal : rustDefinitions ds s ≡ rustPutBack g
   unfolding rustDefinitions rustPutBack holdTexts
   definitions-literal =
-      let start : holdOut textNames s ≡ placedOf (holdTexts s) = texts-held s free (length (holdTexts s .texts)) ∙ ap (placed _) (append-romans (holdTexts s .texts) (holdTexts s .text)) in
+      let start : holdOut textNames s ≡ placedOf (holdTexts s) = texts-held s free (length (textsOf (holdTexts s))) ∙ ap (placed _) (append-romans (textsOf (holdTexts s)) (holdTexts s .text)) in
       ap (λ p. restored 0 (p .blocks) (definedAll (inOrder ds) (p .text))) start
       ∙ sym (ap (λ p. restored 0 (p .blocks) (p .text)) (placed-definitions (inOrder ds) sound (holdTexts s) g through))
     where
       append-romans : (bs : List (List ℕ)) (l : List ℕ) → bs ≡ bs ++ numberedRomans [] 0 l
       append-romans bs l = sym (ap (λ r. bs ++ r) (romans-none 0 l) ∙ append-nil bs)
 
-  pub definitions-answer :
-      applyDefinitionsOutsideText ds s ≡ cond (marked (rustDefinitions ds s)) (refused 6) (passed (rustDefinitions ds s))
-  unfolding applyDefinitionsOutsideText putBack
-  definitions-answer =
-      ap (λ p. p then putBack) through
-      ∙ ap (λ t. cond {A = Result (List ℕ)} (marked t) (refused 6) (passed t)) (sym definitions-literal)
+  pub definitions-own : marked (rustDefinitions ds s) ≡ false → applyDefinitionsOutsideText ds s ≡ passed (rustDefinitions ds s)
+  unfolding applyDefinitionsOutsideText
+  definitions-own none =
+      let made = definitions-made (inOrder ds) sound (hold-texts-made s free) through in
+      ap (λ p. p then putBack) through ∙ ap passed (sym (rust-own made (sym (ap marked definitions-literal) ∙ none)) ∙ sym definitions-literal)
 
 -- ---- words
 placed-rows :
@@ -149,9 +152,10 @@ module _ (s : List ℕ) (free : hasMark s ≡ false) {h g : Held} (greeks : held
       ∙ sym (ap (λ p. restored 0 (p .blocks) (rewrittenAll wordOrLiteral wordMappings (p .text))) (placed-rows greek greek-between greekLetters greek-fine (holdBoth s) h greeks))
       ∙ sym (ap (λ p. restored 0 (p .blocks) (p .text)) (placed-rows wordOrLiteral word-between wordMappings words-fine h g words))
 
-  pub words-answer : convertWords s ≡ cond (marked (rustWords s)) (refused 6) (passed (rustWords s))
-  unfolding convertWords putBack
-  words-answer =
+  pub words-own : marked (rustWords s) ≡ false → convertWords s ≡ passed (rustWords s)
+  unfolding convertWords
+  words-own none =
+      let made = rows-made wordOrLiteral word-between wordMappings words-fine (rows-made greek greek-between greekLetters greek-fine (hold-both-made s free) greeks) words in
       ap (λ p. p then heldRows wordOrLiteral wordMappings then putBack) greeks
       ∙ ap (λ p. p then putBack) words
-      ∙ ap (λ t. cond {A = Result (List ℕ)} (marked t) (refused 6) (passed t)) (sym words-literal)
+      ∙ ap passed (sym (rust-own made (sym (ap marked words-literal) ∙ none)) ∙ sym words-literal)

@@ -5,36 +5,34 @@
 --     outside-untouched with no block and no match, all of them leave every byte as it was
 -- Assumes nothing.
 use mathlib.Core.Path.{_≡_, refl, sym, ap, ap₂, _∙_, subst}
-use mathlib.Core.Bool.{Bool, true, false, cond, _||_}
+use mathlib.Core.Bool.{Bool, true, false, cond}
 use mathlib.Core.List.{List, [], _∷_, _++_}
 use mathlib.Core.Logic.{inl, inr, ⊎-elim}
 use Prim.Native.Nat.{ℕ, _+_, _-_, _≤_}
 use native.Mathlib.Omega.{arith}
 use lib.Dec.{ltb}
-use lib.ListN.{length, length-append}
+use lib.ListN.{length}
 use Rattle.text_search.specs.Half.{halfWork}
 use Rattle.spec.specs.Symbols.{textMark, romanMark}
 use Rattle.spec.specs.Held.{Held, withText, inFull, filled, heldStage, holdTexts, holdBoth, putBack}
 use Rattle.spec.specs.Result.{Result, passed, refused, _then_, mostSymbols}
 use Rattle.spec.specs.Matches.{Match, anyMatch, textOpening, romanOpening}
 use Rattle.spec.specs.Laws.Booleans.{or-neither}
-use Rattle.spec.specs.Laws.Held.{unheld, hold-texts-none, hold-both-none, put-back-none}
+use Rattle.spec.specs.Laws.Held.{hold-texts-none, hold-both-none, filled-none}
 use Rattle.text_symbols.specs.Parts.{part, length-part}
 use Rattle.text.specs.Writer.{Appended, Apart, appended-long}
 use Rattle.text.specs.Written.{appended-text}
-use Rattle.text.specs.Stage.{Ready, Placed, Answered, shown, placed-text, placed-fits, placed-regions}
+use Rattle.text.specs.Stage.{Ready, Placed, Answered, shown, placed-text, placed-regions}
 use Rattle.text.specs.Untouched.{Untouched, untouched-then, any-parts}
 use Rattle.text.specs.declared.Refusal.{Refusal}
-use Rattle.text.specs.declared.Refusal.the-variants.{LostBlock}
 use Rattle.text.specs.declared.Progress.{Progress}
 use Rattle.text.specs.declared.Progress.the-variants.{Text, Refused}
-use Rattle.held_laws.specs.Marks.{hasMark, count, order, concat}
-use Rattle.held_laws.specs.Noted.{noted}
-use Rattle.held_blocks.specs.Filing.{blocksAt}
-use Rattle.held_laws.specs.WellMade.{WellMade, lost, unheld-unmarked}
-use Rattle.held_laws.specs.PutBack.{put-back-lost}
+use Rattle.held_laws.specs.Marks.{count, concat}
+use Rattle.held_laws.specs.WellMade.{symbolsOf, textsOf, WellMade}
+use Rattle.held_laws.specs.Enclosed.{byOrder}
+use Rattle.held_laws.specs.InFull.{in-full-order}
 use Rattle.held_blocks.specs.Back.{Back, storedFrom}
-use Rattle.held_blocks.specs.Holds.{Holds, holds-rewritten, holds-lost, back-romans, romans-back, back-texts, all-back}
+use Rattle.held_blocks.specs.Holds.{Holds, holds-rewritten, back-romans, romans-back, back-texts, all-back}
 use Rattle.name_entry.specs.Sized.{FitsWithBlocks, StagedWithin, sized}
 use Rattle.held_stages.specs.declared.OutsideText.{OutsideText}
 use Rattle.held_stages.specs.Outside.{HeldFrom, Extra, none-held, full-long, half-short, used-symbols}
@@ -45,7 +43,7 @@ pub record AwaitsBlocks (w : List ℕ) (at n texts used : ℕ) (h : Held) : Type
   pub holds : Holds w at (record { len = n; used = used; filed = filed }) (withText h (part at n w))
   pub well-made : WellMade (withText h (part at n w))
   pub short : length (inFull (withText h (part at n w))) ≤ mostSymbols
-  pub many : texts ≡ length (h .texts)
+  pub many : texts ≡ length (textsOf h)
 
 pub record Carries (w : List ℕ) (p : Progress) (texts used : ℕ) (h : Held) : Type 0 where
   pub ready : Ready w p
@@ -71,46 +69,18 @@ module _ {w : List ℕ} {p : Progress} {texts used from n : ℕ} {h : Held} (car
   other : (mostSymbols - from) + mostSymbols ≤ halfWork
   other = ⊎-elim (λ z. omega arith) (λ z. omega arith) (placed-text (carries .ready) e .0)
 
-  pub lost-within : (from + n ≤ length w) × (halfWork + used ≤ length w)
-  lost-within =
-      let f = placed-fits (carries .ready) e in let l = carries .ready .long in
-      let u = marked .holds .used in let few = marked .holds .keeps .few in
-      (omega arith, omega arith)
-
-  pub lost-few : (n ≤ mostSymbols) × (texts ≤ mostSymbols)
-  lost-few =
-      let s = marked .holds .short in let t = marked .many in
-      let few = marked .holds .keeps .short in let l = length-append (h .texts) (h .romans) in
-      (s, omega arith)
-
-  -- what the code tests
-  pub lost-read : {r : Bool} → r ≡ (hasMark (part blocksAt used w) || noted (order 0 texts (part from n w)) (part from n w)) → lost (withText h (part from n w)) ≡ r
-  lost-read q =
-      sym (holds-lost (marked .holds) (marked .well-made))
-      ∙ ap (λ k. hasMark (part blocksAt used w) || noted (order 0 k (part from n w)) (part from n w)) (sym (marked .many)) ∙ sym q
-
   -- no block is held
   pub back-none : used ≡ 0 → Answered w w p (Text from n) (λ t. putBack (withText h t))
   back-none z =
-      let many = used-symbols (marked .holds) (marked .well-made) in
-      let none = none-held (marked .well-made) (omega arith) in
-      let same = ap₂ (λ texts romans. heldOf (part from n w) texts romans) (none .0) (none .1) in
+      let made = marked .well-made in
+      let many = used-symbols (marked .holds) made in
+      let none = none-held made (omega arith) in
+      let same : inFull (withText h (part from n w)) ≡ part from n w =
+      in-full-order made ∙ ap₂ (λ texts romans. byOrder texts romans (part from n w)) (none .0) (none .1) ∙ ap (filled textMark []) (filled-none romanMark (part from n w)) ∙ filled-none textMark (part from n w) in
       record {
-        answer = sym (ap (λ q. shown q w then (λ t. putBack (withText h t))) e ∙ ap putBack same ∙ put-back-none (part from n w) (unheld-unmarked (part from n w) (subst WellMade same (marked .well-made))));
+        answer = sym (ap (λ q. shown q w then (λ t. putBack (withText h t))) e ∙ ap passed same);
         long = refl;
         placed = placed-text (carries .ready) e;
-      }
-    where
-      heldOf : List ℕ → List (List ℕ) → List (List ℕ) → Held
-      heldOf s texts romans = record { text = s; texts = texts; romans = romans }
-
-  -- number 6
-  pub back-lost : lost (withText h (part from n w)) ≡ true → Answered w w p (Refused LostBlock) (λ t. putBack (withText h t))
-  back-lost l =
-      record {
-        answer = sym (ap (λ q. shown q w then (λ t. putBack (withText h t))) e ∙ put-back-lost (marked .well-made) ∙ ap (λ t. cond t (refused 6) (passed (inFull (withText h (part from n w))))) l);
-        long = refl;
-        placed = tt;
       }
 
   pub romans-asked : Back w from n (mostSymbols - from) romanMark texts
@@ -121,7 +91,7 @@ module _ {w : List ℕ} {p : Progress} {texts used from n : ℕ} {h : Held} (car
       {w′ : List ℕ} {half : ℕ}
       (a : Appended w w′ (mostSymbols - from) mostSymbols 0 half (filled romanMark (storedFrom w texts (count romanMark (part from n w))) (part from n w)))
     where
-      romans : Appended w w′ (mostSymbols - from) mostSymbols 0 half (filled romanMark (storedFrom w (length (h .texts)) (count romanMark (part from n w))) (part from n w))
+      romans : Appended w w′ (mostSymbols - from) mostSymbols 0 half (filled romanMark (storedFrom w (length (textsOf h)) (count romanMark (part from n w))) (part from n w))
       romans = subst (λ k. Appended w w′ (mostSymbols - from) mostSymbols 0 half (filled romanMark (storedFrom w k (count romanMark (part from n w))) (part from n w))) (marked .many) a
 
       half-fits : half ≤ mostSymbols
@@ -137,17 +107,17 @@ module _ {w : List ℕ} {p : Progress} {texts used from n : ℕ} {h : Held} (car
       texts-asked = back-texts (marked .holds) (marked .well-made) region other (placed-regions (carries .ready) e .apart) romans half-fits region away
 
       pub back-whole :
-          {w″ : List ℕ} {len : ℕ} → lost (withText h (part from n w)) ≡ false
+          {w″ : List ℕ} {len : ℕ}
           → Appended w′ w″ from mostSymbols 0 len (filled textMark (storedFrom w′ 0 (count textMark (part (mostSymbols - from) half w′))) (part (mostSymbols - from) half w′))
           → Answered w w″ p (Text from len) (λ t. putBack (withText h t))
-      back-whole {w″} {len} l b =
+      back-whole {w″} {len} b =
           let whole = all-back (marked .holds) (marked .well-made) region other (placed-regions (carries .ready) e .apart) romans half-fits b in
           let c = whole .counted in let m = marked .short in
           let fits : len ≤ mostSymbols = omega arith in
           let la = appended-long a in let long = carries .ready .long in let r = region in
           record {
             answer = ap passed (appended-text whole (omega arith) fits)
-                ∙ sym (ap (λ q. shown q w then (λ t. putBack (withText h t))) e ∙ put-back-lost (marked .well-made) ∙ ap (λ t. cond t (refused 6) (passed (inFull (withText h (part from n w))))) l);
+                ∙ sym (ap (λ q. shown q w then (λ t. putBack (withText h t))) e);
             long = appended-long b ∙ la;
             placed = (placed-text (carries .ready) e .0, fits);
           }
@@ -216,18 +186,22 @@ module _
 
 -- ---- no block is held
 module _ {w w₁ : List ℕ} {r : OutsideText} (s : List ℕ) where
-  none-used : {h : Held} → h ≡ unheld s → HeldFrom w w₁ r h → r .used ≡ 0
+  none-used : {h : Held} → textsOf h ≡ [] → h .romans ≡ [] → HeldFrom w w₁ r h → r .used ≡ 0
   unfolding concat
-  none-used e from = from .holds .used ∙ ap (λ (h : Held). length (concat (h .texts ++ h .romans))) e
+  none-used t m from = from .holds .used ∙ ap₂ (λ (bs cs : List (List ℕ)). length (concat (bs ++ cs))) t m
 
   pub texts-unused : HeldFrom w w₁ r (holdTexts s) → anyMatch (textOpening ∷ []) s ≡ false → r .used ≡ 0
-  texts-unused from none = none-used (hold-texts-none s (or-neither (textOpening s) false none .0)) from
+  unfolding symbolsOf
+  texts-unused from none =
+      let e = hold-texts-none s (or-neither (textOpening s) false none .0) in
+      none-used (ap textsOf e) (ap (λ (h : Held). h .romans) e) from
 
   pub both-unused : HeldFrom w w₁ r (holdBoth s) → anyMatch (textOpening ∷ (romanOpening ∷ [])) s ≡ false → r .used ≡ 0
+  unfolding symbolsOf
   both-unused from none =
       let parts = or-neither (textOpening s) (anyMatch (romanOpening ∷ []) s) none in
-      let texts = hold-texts-none s (parts .0) in
-      none-used (hold-both-none s (ap (λ (h : Held). romanOpening (h .text)) texts ∙ or-neither (romanOpening s) false (parts .1) .0) ∙ texts) from
+      let e = hold-both-none s (parts .0) (or-neither (romanOpening s) false (parts .1) .0) in
+      none-used (ap textsOf e) (ap (λ (h : Held). h .romans) e) from
 
 pub outside-untouched :
     {w w₁ w₂ w₃ : List ℕ} {from n at len used : ℕ} {p₀ p p₃ : Progress} (openings ms : List Match) → p₀ ≡ Text from n

@@ -14,7 +14,7 @@ use Rattle.spec.specs.Result.{mostSymbols}
 use Rattle.text_search.specs.Half.{halfWork}
 use Rattle.spec.specs.Symbols.{bytes, contains, textMark, romanMark}
 use Rattle.spec.specs.Held.{Held, holdTexts, holdBoth, inFull, filled}
-use Rattle.spec.specs.Laws.Held.{hold-texts-none, hold-both-none}
+use Rattle.spec.specs.Laws.Held.{hold-texts-none}
 use Rattle.text_symbols.specs.Parts.{part, length-part, whole-part}
 use Rattle.text.specs.Writer.{appended-long}
 use Rattle.text.specs.Stage.{Ready, Placed, placed-text, placed-fits, placed-regions}
@@ -22,9 +22,9 @@ use Rattle.text.specs.declared.Progress.{Progress}
 use Rattle.text.specs.declared.Progress.the-variants.{Text, Refused}
 use Rattle.held_blocks.specs.declared.Marked.{Marked}
 use Rattle.held_laws.specs.Marks.{hasMark, concat}
-use Rattle.held_laws.specs.WellMade.{Every, MarkFreeBlock, Enclosing, WellMade, concat-append}
-use Rattle.held_laws.specs.InFull.{in-full-length, text-marks-left, filled-length}
-use Rattle.held_laws.specs.Holding.{hold-texts-made, hold-both-made}
+use Rattle.held_laws.specs.WellMade.{Every, MarkFreeBlock, Enclosing, symbolsOf, textsOf, WellMade, concat-append}
+use Rattle.held_laws.specs.InFull.{in-full-order, in-full-length, text-marks-left, filled-length}
+use Rattle.held_laws.specs.Holding.{hold-texts-made, hold-both-made, same-texts, hold-both-texts}
 use Rattle.held_blocks.specs.Keeping.{keeps-none}
 use Rattle.held_laws.specs.Limits.{hold-texts-full, hold-both-full}
 use Rattle.held_blocks.specs.Filing.{HeldOut}
@@ -46,14 +46,14 @@ holdable {w} ready free e = record { ready = record { long = ready .long; placed
 
 -- as many symbols as its blocks have beyond their marks
 abbrev pub Extra : Held → ℕ → Type 0
-Extra h extra = extra + (length (h .texts) + length (h .romans)) ≡ length (concat (h .texts)) + length (concat (h .romans))
+Extra h extra = extra + (length (textsOf h) + length (h .romans)) ≡ length (concat (textsOf h)) + length (concat (h .romans))
 
 pub record HeldFrom (w w′ : List ℕ) (r : OutsideText) (h : Held) : Type 0 where
   pub filed : ℕ
   pub holds : Holds w′ (r .at) (record { len = r .len; used = r .used; filed = filed }) h
   pub well-made : WellMade h
   pub placed : (r .at ≡ 0) ⊎ (r .at ≡ mostSymbols)
-  pub texts : r .texts ≡ length (h .texts)
+  pub texts : r .texts ≡ length (textsOf h)
   pub extra : Extra h (r .extra)
   pub within : r .len + r .extra ≤ mostSymbols
   pub long : length w′ ≡ length w
@@ -72,15 +72,15 @@ enclosing-long : (b : List ℕ) → Enclosing b → 1 ≤ length b
 enclosing-long b p = let e = ap length (p .begins) in omega arith
 
 module _ {h : Held} (made : WellMade h) where
-  texts-long : length (h .texts) ≤ length (concat (h .texts))
-  texts-long = joined-long MarkFreeBlock plain-long (h .texts) (made .texts)
+  texts-long : length (textsOf h) ≤ length (concat (textsOf h))
+  texts-long = joined-long MarkFreeBlock plain-long (textsOf h) (made .texts)
 
   romans-long : length (h .romans) ≤ length (concat (h .romans))
   romans-long = joined-long Enclosing enclosing-long (h .romans) (made .romans)
 
   -- without a symbol there is no block
-  pub none-held : length (concat (h .texts)) + length (concat (h .romans)) ≡ 0 → (h .texts ≡ []) × (h .romans ≡ [])
-  none-held e = let t = texts-long in let r = romans-long in (empty (h .texts) (omega arith), empty (h .romans) (omega arith))
+  pub none-held : length (concat (textsOf h)) + length (concat (h .romans)) ≡ 0 → (textsOf h ≡ []) × (h .romans ≡ [])
+  none-held e = let t = texts-long in let r = romans-long in (empty (textsOf h) (omega arith), empty (h .romans) (omega arith))
     where
       empty : (bs : List (List ℕ)) → length bs ≡ 0 → bs ≡ []
       empty [] z = refl
@@ -92,23 +92,25 @@ module _ {h : Held} (made : WellMade h) where
 
   -- with `\mathrm` blocks put back, the text is no longer than in full
   pub half-short : length (filled romanMark (h .romans) (h .text)) ≤ length (inFull h)
-  unfolding inFull
-  half-short = let l = filled-length textMark (filled romanMark (h .romans) (h .text)) (h .texts) (text-marks-left made) in let t = texts-long in omega arith
+  half-short =
+      let l = filled-length textMark (filled romanMark (h .romans) (h .text)) (textsOf h) (text-marks-left made) in
+      let t = texts-long in let e = ap length (in-full-order made) in
+      omega arith
 
 -- ---- what has been held out, counted
 module _ {w′ : List ℕ} {at : ℕ} {m : Marked} {h : Held} (holds : Holds w′ at m h) (made : WellMade h) where
-  blocks : m .filed / 4 ≡ length (h .texts) + length (h .romans)
-  blocks = let f = holds .filed in let l = length-append (h .texts) (h .romans) in omega arith
+  blocks : m .filed / 4 ≡ length (textsOf h) + length (h .romans)
+  blocks = let f = holds .filed in let l = length-append (textsOf h) (h .romans) in omega arith
 
-  pub used-symbols : m .used ≡ length (concat (h .texts)) + length (concat (h .romans))
-  used-symbols = holds .used ∙ ap length (concat-append (h .texts) (h .romans)) ∙ length-append (concat (h .texts)) (concat (h .romans))
+  pub used-symbols : m .used ≡ length (concat (textsOf h)) + length (concat (h .romans))
+  used-symbols = holds .used ∙ ap length (concat-append (textsOf h) (h .romans)) ∙ length-append (concat (textsOf h)) (concat (h .romans))
 
   -- places are fewer than bytes
   pub extra-fits : m .filed / 4 ≤ m .used
   extra-fits = let b = blocks in let s = used-symbols in let t = texts-long made in let r = romans-long made in omega arith
 
   pub held-counted :
-      {w : List ℕ} {texts : ℕ} → (at ≡ 0) ⊎ (at ≡ mostSymbols) → texts ≡ length (h .texts) → length (inFull h) ≤ mostSymbols → length w′ ≡ length w
+      {w : List ℕ} {texts : ℕ} → (at ≡ 0) ⊎ (at ≡ mostSymbols) → texts ≡ length (textsOf h) → length (inFull h) ≤ mostSymbols → length w′ ≡ length w
       → HeldFrom w w′ (record { at = at; len = m .len; texts = texts; used = m .used; extra = m .used - m .filed / 4 }) h
   held-counted placed texts short long =
       let b = blocks in let s = used-symbols in let f = extra-fits in
@@ -161,7 +163,7 @@ module _ {w : List ℕ} {from n : ℕ} (able : Holdable w from n) where
 
   -- there is no `\text` block
   pub texts-none : contains (bytes "\\text{") (part from (from + n - from) w) ≡ false → HeldFrom w w (record { at = from; len = n; texts = 0; used = 0; extra = 0 }) (holdTexts (part from n w))
-  unfolding concat
+  unfolding concat symbolsOf
   texts-none e =
       let none = hold-texts-none (part from n w) (sym (ap (contains (bytes "\\text{")) (whole-part from n w)) ∙ e) in
       let size = placed .1 in
@@ -194,7 +196,7 @@ module _ {w : List ℕ} {from n : ℕ} (able : Holdable w from n) where
       first-long = held-long h
 
       -- all blocks are `\text` blocks
-      first-texts : m .filed / 4 ≡ length (holdTexts (part from n w) .texts)
+      first-texts : m .filed / 4 ≡ length (textsOf (holdTexts (part from n w)))
       unfolding holdTexts
       first-texts = let b = blocks first-holds first-made in omega arith
 
@@ -216,13 +218,13 @@ module _ {w : List ℕ} {from n : ℕ} (able : Holdable w from n) where
     pub both-none : contains (bytes "\\mathrm{") (part (t .at) (t .at + t .len - t .at) w′) ≡ false → HeldFrom w w′ t (holdBoth (part from n w))
     both-none e =
         let text = whole-part (t .at) (t .len) w′ ∙ first .holds .text in
-        subst (HeldFrom w w′ t) (sym (hold-both-none (part from n w) (sym (ap (contains (bytes "\\mathrm{")) text) ∙ e))) first
+        subst (HeldFrom w w′ t) (sym (hold-both-texts (part from n w) (able .mark-free) (sym (ap (contains (bytes "\\mathrm{")) text) ∙ e))) first
 
     -- only `\text` blocks have been filed
     four : first .filed ≡ 4 * t .texts
     unfolding holdTexts
     four =
-        let f = first .holds .filed in let t = first .texts in let l = length-append (holdTexts (part from n w) .texts) [] in
+        let f = first .holds .filed in let t = first .texts in let l = length-append (textsOf (holdTexts (part from n w))) [] in
         omega arith
 
     abbrev filedTexts : Marked
@@ -259,9 +261,8 @@ module _ {w : List ℕ} {from n : ℕ} (able : Holdable w from n) where
         pub second-extra : m .filed / 4 ≤ m .used
         second-extra = extra-fits second-holds second-made
 
-        second-texts : t .texts ≡ length (holdBoth (part from n w) .texts)
-        unfolding holdBoth
-        second-texts = first .texts
+        second-texts : t .texts ≡ length (textsOf (holdBoth (part from n w)))
+        second-texts = first .texts ∙ ap length (sym (same-texts (part from n w)))
 
         pub both-counted : HeldFrom w w″ (record { at = mostSymbols - t .at; len = m .len; texts = t .texts; used = m .used; extra = m .used - m .filed / 4 }) (holdBoth (part from n w))
         both-counted =

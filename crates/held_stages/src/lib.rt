@@ -1,6 +1,5 @@
 // Blocks held out of a text, and put back: the two ends of the stages that spare block text.
 use text::Progress;
-use text::Refusal;
 ghost use mathlib.Core.Path.{_≡_};
 ghost use mathlib.Core.List.{[], _∷_};
 ghost use Rattle.spec.specs.Matches.{textOpening, romanOpening};
@@ -83,7 +82,7 @@ pub fn hold_both(work: &mut [u8], from: usize, n: usize) -> OutsideText
     }
 }
 
-// Puts every block back to its place, or says that the Rust loses one: number 6. Where none is held, the text stays where it is.
+// Puts every block back to its own mark. Where none is held, the text stays where it is.
 pub fn put_all_back(work: &mut [u8], text: Progress, texts: usize, used: usize) -> Progress
     requires { ⌜ Carried (now work) text texts used ⌝ }
     ensures { λ r. ⌜ ((h : Held) → Carries (now (work .entry)) text texts used h → Answered (now (work .entry)) (now (work .exit)) text r (λ t. putBack (withText h t))) ⌝ }
@@ -94,9 +93,6 @@ pub fn put_all_back(work: &mut [u8], text: Progress, texts: usize, used: usize) 
     };
     if used == 0 {
         return text;
-    }
-    if held_lost::lost(work, from, n, texts, used) {
-        return Progress::Refused(Refusal::LostBlock);
     }
     let to = text::CAP - from;
     let half = held_blocks::put_back(work, from, n, to, held_blocks::ROMAN_MARK, texts);

@@ -4,17 +4,17 @@
 --     puts-refused, ..         each way through the last step
 --     call-narrow, call-made   the whole call
 use mathlib.Core.Path.{_≡_, refl, sym, ap, _∙_, subst}
-use mathlib.Core.Bool.{Bool, true, false, cond, false≢true, true≢false}
+use mathlib.Core.Bool.{Bool, true, false, false≢true, true≢false}
 use mathlib.Core.Logic.{inl}
-use mathlib.Core.List.{List, [], _∷_, _++_}
+use mathlib.Core.List.{List, [], _++_}
 use mathlib.Core.Option.{Option, none, some, Option·getD}
 use Prim.Native.Nat.{ℕ, _≤_, _<_}
 use native.Mathlib.Omega.{arith}
 use lib.Dec.{eqb, ltb}
 use lib.ListN.{length, drop, replicate, length-append, length-drop}
 use lib.Seq.{take-append-seam}
-use borrow.Author.Tests.{lt-ltb, le-ltb, eqb-true}
-use Rattle.spec.specs.Symbols.{foreign, any, textMark, romanMark}
+use borrow.Author.Tests.{lt-ltb, le-ltb}
+use Rattle.spec.specs.Symbols.{foreign, any}
 use Rattle.spec.specs.Result.{Result, passed, refused, _then_}
 use Rattle.spec.specs.Table.{Definition, definitions}
 use Rattle.spec.specs.Laws.Booleans.{or-neither}
@@ -26,12 +26,14 @@ use Rattle.text.specs.declared.Progress.the-variants.{Text, Refused}
 use Rattle.text.specs.declared.Refusal.{Refusal}
 use Rattle.text.specs.declared.Refusal.the-variants.{ForeignByte, LongFormula, FaultyTable, ShortOutput}
 use Rattle.table.specs.Sound.{refused as isRefused}
-use Rattle.held_laws.specs.Marks.{isMark, hasMark}
+use Rattle.held_laws.specs.Marks.{hasMark}
+use Rattle.held_laws.specs.Instances.{any-unmarked}
 use Rattle.math_conv.specs.declared.Answer.{Answer}
 use Rattle.math_conv.specs.declared.Answer.the-variants.{Done, Refused as RefusedBy}
 use Rattle.stages.specs.Fit.{Admissible}
 use Rattle.math_conv.specs.Answer.{meaning, Admits, PutOut}
-use Rattle.stage_laws.specs.Late.{Late, passes, refuses, then-late, stages-late}
+use Rattle.stage_laws.specs.Late.{Late, passes, refuses}
+use Rattle.stage_laws.specs.Answers.{converted-late}
 
 -- ---- admission
 refused-ready : {w : List ℕ} {k : Refusal} → leastWork ≤ length w → Ready w (Refused k)
@@ -81,19 +83,6 @@ module _ {formula table w : List ℕ} (wide : leastWork ≤ length w) where
         go none e = absurd (true≢false e)
         go (some ds) e = refl
 
--- a mark is foreign
-unmarked : (s : List ℕ) → any foreign s ≡ false → hasMark s ≡ false
-unmarked [] e = refl
-unmarked (x ∷ s) e = rw (own (eqb x textMark) refl (eqb x romanMark) refl, any) (unmarked s (or-neither (foreign x) (any foreign s) e .1))
-  where
-    native-x : foreign x ≡ false
-    native-x = or-neither (foreign x) (any foreign s) e .0
-
-    own : (p : Bool) → eqb x textMark ≡ p → (q : Bool) → eqb x romanMark ≡ q → isMark x ≡ false
-    own true p q u = absurd (true≢false (sym (ap foreign (eqb-true x textMark p)) ∙ native-x))
-    own false p true u = absurd (true≢false (sym (ap foreign (eqb-true x romanMark u)) ∙ native-x))
-    own false p false u = rw (p, u)
-
 pub admits-fit : {formula table w w′ : List ℕ} {p : Progress} → Admits formula table w w′ p → Admissible table (shown p w′)
 admits-fit {formula} {table} {w} a =
     subst (Admissible table) (sym (a .shows))
@@ -109,7 +98,7 @@ admits-fit {formula} {table} {w} a =
     read f none e = no
     read f (some ds) e =
         record {
-          bare = record { unmarked = λ s h. let same : formula ≡ s = cc in subst (λ t. hasMark t ≡ false) same (unmarked formula f) };
+          bare = record { unmarked = λ s h. let same : formula ≡ s = cc in subst (λ t. hasMark t ≡ false) same (any-unmarked foreign refl refl formula f) };
           sound = λ s h. e ∙ ap some (sym (ap (λ (o : Option (List Definition)). Option·getD o []) e));
         }
 
@@ -153,29 +142,9 @@ module _ {w output : List ℕ} {p : Progress} {at n : ℕ} (ready : Ready w p) (
       }
 
 -- ---- the call
-admitted-late : (formula table work : List ℕ) → leastWork ≤ length work → Late (admitted formula table work)
-admitted-late formula table work wide = rw (le-ltb (length work) leastWork wide, admitted) (go (ltb mostFormula (length formula)) (any foreign formula) (definitions table))
-  where
-    read : (ds : Option (List Definition)) → Late (readable formula ds)
-    read none = refuses refl
-    read (some ds) = passes
-
-    go : (c d : Bool) (ds : Option (List Definition))
-        → Late {A = List ℕ} (elim c as (λ c. Result (List ℕ)) [ true ↦ refused 2 | false ↦ elim d as (λ d. Result (List ℕ)) [ true ↦ refused 1 | false ↦ readable formula ds ] ])
-    go true d ds = refuses refl
-    go false true ds = refuses refl
-    go false false ds = read ds
-
-fitting-late : (output s : List ℕ) → Late (fitting output s)
-fitting-late output s = go (ltb (length output) (length s))
-  where
-    go : (b : Bool) → Late (cond b (refused 10) (passed s))
-    go true = refuses refl
-    go false = passes
-
 cleared : (work : List ℕ) {r : Result (List ℕ)} → Late r → workAfter r work ≡ replicate (length work) 0
 cleared work passes = refl
-cleared work (refuses e) = rw e
+cleared work (refuses {n} e) = rw (or-neither (eqb n 4) (eqb n 6) e .0)
 
 module _ {formula table work output : List ℕ} {display : Bool} where
   pub call-narrow : length work < leastWork → Call formula table display work output (refused 4) work output
@@ -205,6 +174,6 @@ module _ {formula table work output : List ℕ} {display : Bool} where
       ap (λ r. r then fitting output) (b .answer ∙ ap (λ r. r then typstToLatex (definitionsOr table) display) (a .shows)) in
       record {
         answers = c .answers ∙ ap answerOf whole;
-        clears = e ∙ ap (λ n. replicate n 0) (b .long ∙ a .long) ∙ sym (cleared work (then-late (fitting output) (then-late (typstToLatex (definitionsOr table) display) (admitted-late formula table work wide) (stages-late (definitionsOr table) display)) (fitting-late output)));
+        clears = e ∙ ap (λ n. replicate n 0) (b .long ∙ a .long) ∙ sym (cleared work (converted-late formula table display work output wide));
         writes = c .writes ∙ ap (λ r. outputAfter r output) whole;
       }

@@ -22,15 +22,16 @@ use Rattle.spec.specs.Fractions.{mostRounds, convertFractions}
 use Rattle.spec.specs.Finish.{escapeSetBraces, lr, convertLr, sizeDelimitersToContent, escapePercent, convertAlignment, dropThinSpaceAfterCommands}
 use Rattle.spec.specs.Pipeline.{markSolidus, unmarkSolidus, convertSyntax, typstToLatex}
 use Rattle.spec.specs.Laws.Absent.{replace-absent, cases-absent, attach-absent, quotes-absent, thin-spaces-absent}
-use Rattle.plain_printing.specs.Tree.{Tree, PlainTree, depth, typstStyle, markedStyle, finalStyle, write, text, treeLatex}
+use Rattle.spec.specs.Laws.Held.{in-full-none}
+use Rattle.plain_printing.specs.Tree.{Tree, PlainTree, depth, markedStyle, finalStyle, write, text, treeLatex}
 use Rattle.plain_printing.specs.Settle.{settle-only, settle-does}
 use Rattle.plain_printing.specs.SizingTree.{size-plain}
-use Rattle.plain_printing.specs.Alphabet.{all-plain, ends-plain}
+use Rattle.plain_printing.specs.Alphabet.{ends-plain}
 use Rattle.plain_printing.specs.Absent.{stopped, absent-typed, absent-marked, absent-final}
 use Rattle.plain_printing.specs.CallsCopy.{calls-copy, binom-copies, sqrt-copies, wrap-text-copies, lr-sweep-copies, lr-is-stage, alignment-copies}
 use Rattle.plain_printing.specs.Braces.{set-braces-copy, multichar-scripts-copy}
 use Rattle.plain_printing.specs.Scripts.{low-scripts, high-scripts}
-use Rattle.plain_printing.specs.Blocks.{texts-nowhere, put-back-plain}
+use Rattle.plain_printing.specs.Blocks.{texts-nowhere}
 use Rattle.plain_printing.specs.Yields.{Yields, passed-yields, then-yields, stage-yields}
 use Rattle.plain_printing.specs.Tables.{TreeFits, early-short, functions-yield, operators-yield, words-yield, capitals-yield}
 
@@ -96,7 +97,7 @@ module _ (t : Tree) (plain : PlainTree t) where
 
   undefined : applyDefinitionsOutsideText [] (text t) ≡ passed (text t)
   unfolding applyDefinitionsOutsideText
-  undefined = ap putBack (texts-nowhere (text t) (absent-typed (bytes "\\text{") refl t)) ∙ put-back-plain (text t) (all-plain typstStyle 0 t)
+  undefined = ap putBack (texts-nowhere (text t) (absent-typed (bytes "\\text{") refl t)) ∙ ap passed (in-full-none (text t))
 
   definitions-yield : Goes (applyDefinitionsOutsideText [] (text t)) (text t)
   definitions-yield = rw undefined (passed-yields (text t))

@@ -14,15 +14,14 @@ use Rattle.spec.specs.Rows.{Row, functionMappings, operatorReplacements, greekL
 use Rattle.spec.specs.Words.{replaceRows, greek, capital, wordOrLiteral, heldRows, convertWords, capitals}
 use Rattle.spec.specs.Fractions.{mostRounds}
 use Rattle.spec.specs.Laws.Booleans.{and-left, and-right}
-use Rattle.spec.specs.Laws.Held.{unheld}
+use Rattle.spec.specs.Laws.Held.{unheld, in-full-none}
 use Rattle.spec.specs.Laws.Absent.{replace-absent}
 use Rattle.plain_printing.specs.Tree.{Tree, PlainTree, depth, typedStyle, markedStyle, write, text, treeLatex}
-use Rattle.plain_printing.specs.Alphabet.{all-plain}
 use Rattle.plain_printing.specs.Absent.{stopped, absent-typed}
 use Rattle.plain_printing.specs.WordsCopy.{twoLetters, wordRow, word-row-copies, capital-row-copies}
 use Rattle.plain_printing.specs.Greek.{allRowsAt, passRule, passes-hold, greek-pass}
 use Rattle.plain_printing.specs.Growth.{latex-longest}
-use Rattle.plain_printing.specs.Blocks.{both-nowhere, put-back-plain}
+use Rattle.plain_printing.specs.Blocks.{both-nowhere}
 use Rattle.plain_printing.specs.Yields.{Yields, passed-yields, then-yields, stage-yields, held-yields}
 
 -- what numbers 5 and 7 ask of a plain formula: its fractions enclose one another at most 64 deep, and its LaTeX is not overgrown
@@ -84,7 +83,7 @@ module _ (t : Tree) (plain : PlainTree t) where
   names-yield = rw (both-nowhere (text t) (absent-typed (bytes "\\text{") refl t) (absent-typed (bytes "\\mathrm{") refl t)) (greek-yields greekLetters 0 passes-hold)
 
   back-yields : Yields (TreeFits t) (putBack (unheld marked)) marked
-  back-yields = rw (put-back-plain marked (all-plain (markedStyle false false) 0 t)) (passed-yields marked)
+  back-yields = rw (in-full-none marked) (passed-yields marked)
 
   pub words-yield : Yields (TreeFits t) (convertWords (text t)) marked
   unfolding convertWords

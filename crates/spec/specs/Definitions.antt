@@ -27,5 +27,5 @@ applyDefinitions [] h = passed h
 applyDefinitions (d ∷ ds) h = elim (eqb (length (d .name)) 1) [ true ↦ applyDefinitions ds h | false ↦ heldStage (applyDefinition d) h then applyDefinitions ds ]
 
 unfoldable pub applyDefinitionsOutsideText : List Definition → List ℕ → Result (List ℕ)
-unfolding inOrder holdTexts applyDefinitions putBack
+unfolding inOrder holdTexts applyDefinitions inFull
 applyDefinitionsOutsideText ds s = applyDefinitions (inOrder ds) (holdTexts s) then putBack

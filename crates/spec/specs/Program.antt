@@ -5,13 +5,12 @@
 --     Prints                  the same from what has been read into buffers, whatever lies behind the place where reading stopped
 use mathlib.Core.Path.{_≡_}
 use mathlib.Core.Bool.{Bool, true, false, cond}
-use mathlib.Core.List.{List, [], _∷_, _++_}
+use mathlib.Core.List.{List, [], _∷_, _++_, reverse}
 use mathlib.Core.Option.{Option, none, some}
-use Prim.Native.Nat.{ℕ}
+use Prim.Native.Nat.{ℕ, zero, suc}
 use lib.ListN.{length, take, drop, replicate}
 use Rattle.spec.specs.Symbols.{bytes, is}
 use Rattle.spec.specs.Result.{Result, passed, refused}
-use Rattle.spec.specs.Held.{decimal}
 use Rattle.spec.specs.Pipeline.{leastWork, converted, outputAfter, workAfter}
 
 -- ---- the input: a line `d` (display on) or `i` (off), then the formula to the end
@@ -29,6 +28,19 @@ abbrev pub formulaOf : List ℕ → List ℕ
 formulaOf input = drop 2 input
 
 -- ---- the text
+-- a number's digits, the last first, one further
+unfoldable pub up : List ℕ → List ℕ
+up [] = bytes "1"
+up (d ∷ ds) = elim (is "9" d) [ true ↦ bytes "0" ++ up ds | false ↦ suc d ∷ ds ]
+
+unfoldable pub counted : ℕ → List ℕ
+counted zero = bytes "0"
+counted (suc n) = up (counted n)
+
+-- the first digit first
+abbrev pub decimal : ℕ → List ℕ
+decimal n = reverse (counted n)
+
 abbrev pub mostOutput : ℕ
 mostOutput = 8192
 

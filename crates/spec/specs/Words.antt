@@ -69,7 +69,7 @@ heldRows rule (r ∷ rs) h = heldStage (sweep (rule r) 0 0) h then heldRows rule
 
 -- blocks are spared by Greek names and words
 unfoldable pub convertWords : List ℕ → Result (List ℕ)
-unfolding holdBoth heldRows putBack
+unfolding holdBoth heldRows inFull
 convertWords s = heldRows greek greekLetters (holdBoth s) then heldRows wordOrLiteral wordMappings then putBack
 
 unfoldable pub capitals : List Row → List ℕ → Result (List ℕ)

@@ -1,18 +1,18 @@
--- No stage refuses by number 4, so that the work buffer is cleared after every stage's refusal. Assumes nothing.
---     Late             a result that is not refused by number 4
+-- No stage refuses by number 4, so that the work buffer is cleared after every stage's refusal, and none by number 6. Assumes nothing.
+--     Late             a result that is refused by neither
 --     stages-late      that of all stages, `typstToLatex`
 use mathlib.Core.Path.{_≡_, refl}
-use mathlib.Core.Bool.{Bool, true, false, cond}
+use mathlib.Core.Bool.{Bool, true, false, cond, _||_}
 use mathlib.Core.List.{List, [], _∷_}
 use mathlib.Core.Option.{Option, none, some}
 use Prim.Native.Nat.{ℕ, zero, suc}
 use Prim.Native.Char.{code}
 use lib.Dec.{eqb, ltb}
 use lib.ListN.{length}
-use Rattle.spec.specs.Symbols.{any, same, textMark}
+use Rattle.spec.specs.Symbols.{same}
 use Rattle.spec.specs.Sweep.{Rule, sweep, reached, replace}
 use Rattle.spec.specs.Result.{Result, passed, refused, _then_, mostSymbols, stage}
-use Rattle.spec.specs.Held.{Held, holdTexts, holdBoth, inFull, heldStage, rustPutBack, putBack, withText}
+use Rattle.spec.specs.Held.{Held, holdTexts, holdBoth, inFull, heldStage, putBack, withText}
 use Rattle.spec.specs.Calls.{convertOp, convertCases, convertAttach, convertBb, convertBold, convertBinom, convertUpright, convertFloor, convertCeil, convertAbs, convertCal, convertFrak, convertUprightAgain, convertFloorCeilAbs}
 use Rattle.spec.specs.Quotes.{convertTextQuotes}
 use Rattle.spec.specs.Table.{Definition, inOrder}
@@ -24,15 +24,18 @@ use Rattle.spec.specs.Fractions.{convertRegularFractions, mostRounds, settle, c
 use Rattle.spec.specs.Finish.{escapeSetBraces, bareDelimiter, lr, convertLr, sizeDelimitersToContent, escapePercent, convertAlignment, dropThinSpaceAfterCommands}
 use Rattle.spec.specs.Pipeline.{markSolidus, unmarkSolidus, onDisplay, convertSyntax, typstToLatex}
 
+abbrev pub fourOrSix : ℕ → Bool
+fourOrSix n = eqb n 4 || eqb n 6
+
 pub data Late {A : Type 0} : Result A → Type 0 where
   passes : {a : A} → Late (passed a)
-  refuses : {n : ℕ} → eqb n 4 ≡ false → Late (refused n)
+  refuses : {n : ℕ} → fourOrSix n ≡ false → Late (refused n)
 
 pub then-late : {A B : Type 0} {r : Result A} (f : A → Result B) → Late r → ((a : A) → Late (f a)) → Late (r then f)
 then-late f (passes {a}) next = next a
 then-late f (refuses e) next = refuses e
 
-cond-late : {A : Type 0} (b : Bool) (n : ℕ) (a : A) → eqb n 4 ≡ false → Late (cond b (refused n) (passed a))
+cond-late : {A : Type 0} (b : Bool) (n : ℕ) (a : A) → fourOrSix n ≡ false → Late (cond b (refused n) (passed a))
 cond-late true n a e = refuses e
 cond-late false n a e = passes
 
@@ -42,10 +45,6 @@ stage-late f s = cond-late (ltb mostSymbols (length (f s))) 5 (f s) refl
 -- ---- blocks that are held
 held-late : (f : List ℕ → List ℕ) (h : Held) → Late (heldStage f h)
 held-late f h = cond-late (ltb mostSymbols (length (inFull (withText h (f (h .text)))))) 5 _ refl
-
-back-late : (h : Held) → Late (putBack h)
-unfolding putBack
-back-late h = cond-late (any (λ x. eqb x textMark) (rustPutBack h)) 6 (rustPutBack h) refl
 
 definitions-late : (ds : List Definition) (h : Held) → Late (applyDefinitions ds h)
 unfolding applyDefinitions
@@ -58,7 +57,7 @@ definitions-late (d ∷ ds) h = go (eqb (length (d .name)) 1) (definitions-late 
 
 outside-late : (ds : List Definition) (s : List ℕ) → Late (applyDefinitionsOutsideText ds s)
 unfolding applyDefinitionsOutsideText
-outside-late ds s = then-late putBack (definitions-late (inOrder ds) (holdTexts s)) back-late
+outside-late ds s = then-late putBack (definitions-late (inOrder ds) (holdTexts s)) (λ h. passes)
 
 held-rows-late : (rule : Row → Rule) (rs : List Row) (h : Held) → Late (heldRows rule rs h)
 unfolding heldRows
@@ -78,7 +77,7 @@ capitals-late (r ∷ rs) s = then-late (capitals rs) (stage-late (sweep (capital
 
 words-late : (s : List ℕ) → Late (convertWords s)
 unfolding convertWords
-words-late s = then-late putBack (then-late (heldRows wordOrLiteral wordMappings) (held-rows-late greek greekLetters (holdBoth s)) (held-rows-late wordOrLiteral wordMappings)) back-late
+words-late s = then-late putBack (then-late (heldRows wordOrLiteral wordMappings) (held-rows-late greek greekLetters (holdBoth s)) (held-rows-late wordOrLiteral wordMappings)) (λ h. passes)
 
 -- ---- fractions, `lr`
 settle-late : (k : ℕ) (s : List ℕ) → Late (settle k s)

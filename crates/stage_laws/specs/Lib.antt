@@ -1,5 +1,6 @@
 -- What holds of the stages' results.
 pub mod Late
+pub mod Answers
 pub mod Each
 pub mod Calls
 pub mod Quotes

@@ -11,15 +11,14 @@ use lib.Dec.{ltb}
 use lib.ListN.{length}
 use Rattle.spec.specs.Result.{Result, passed, refused, _then_, stage}
 use Rattle.spec.specs.Table.{Definition, mostBytes, mostRecords, records, faulty, definitions, inOrder, Rearranged}
-use Rattle.spec.specs.Calls.{convertOp, convertCases, convertAttach, convertBb, convertBold, convertBinom, convertUpright, convertFloorCeilAbs}
-use Rattle.spec.specs.Quotes.{convertTextQuotes}
 use Rattle.spec.specs.Held.{holdTexts, putBack}
 use Rattle.spec.specs.Definitions.{applyDefinitions, applyDefinitionsOutsideText}
 use Rattle.spec.specs.Finish.{convertAlignment, dropThinSpaceAfterCommands}
-use Rattle.spec.specs.Pipeline.{markSolidus, convertSyntax, typstToLatex, definitionsOr, readable, admitted, fitting, converted, answerOf, outputAfter, workAfter, Call}
+use Rattle.spec.specs.Pipeline.{convertSyntax, typstToLatex, definitionsOr, readable, admitted, fitting, converted, answerOf, outputAfter, workAfter, Call}
 use Rattle.spec.specs.Laws.Booleans.{or-neither}
 use Rattle.spec.specs.Laws.Order.{in-order-same}
 use Rattle.spec.specs.Laws.Table.{records-long, bytes-same, length-same, faulty-same, sound-distinct, definitionsUnless, wrong, definitions-unless, admitted-same}
+use Rattle.stage_laws.specs.Stages.{beforeDefinitions}
 
 pub record SameRecords (table table′ : List ℕ) : Type 0 where
   pub first : List Definition
@@ -41,20 +40,7 @@ typst-to-latex-order : (ds es : List Definition) (display : Bool) (s : List ℕ)
 unfolding typstToLatex
 typst-to-latex-order ds es display s h =
     ap (λ r. r then convertSyntax display then stage convertAlignment then stage dropThinSpaceAfterCommands)
-    (then-same undefined-yet (λ u. outside-text-order ds es u h))
-  where
-    undefined-yet : Result (List ℕ)
-    undefined-yet =
-        stage markSolidus s
-        then stage convertOp
-        then stage convertCases
-        then stage convertAttach
-        then stage convertBb
-        then stage convertBold
-        then stage convertBinom
-        then stage convertUpright
-        then convertFloorCeilAbs
-        then stage convertTextQuotes
+    (then-same (beforeDefinitions s) (λ u. outside-text-order ds es u h))
 
 -- ---- calls
 module _ {table table′ : List ℕ} (t : SameRecords table table′) where

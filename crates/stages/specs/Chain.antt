@@ -2,13 +2,11 @@
 --     staged-ready           what a stage asks, of the text that the one before it gave
 --     bare-after, fit-after  what definitions and words ask besides, from stage to stage
 use mathlib.Core.Path.{_≡_, refl, sym, ap, _∙_, subst}
-use mathlib.Core.Bool.{Bool, true, false, not}
-use mathlib.Core.List.{List, [], _∷_}
+use mathlib.Core.Bool.{Bool, true, false}
+use mathlib.Core.List.{List}
 use mathlib.Core.Option.{some}
 use Prim.Native.Nat.{ℕ}
 use native.Mathlib.Omega.{arith}
-use borrow.Author.Tests.{not-true}
-use Rattle.spec.specs.Symbols.{any}
 use Rattle.spec.specs.Result.{Result, passed, refused, _then_, stage}
 use Rattle.spec.specs.Calls.{convertOp, convertCases, convertAttach, convertBb, convertBold, convertBinom, convertUpright, convertFloorCeilAbs}
 use Rattle.spec.specs.Quotes.{convertTextQuotes}
@@ -16,30 +14,22 @@ use Rattle.spec.specs.Rows.{functionMappings, operatorReplacements}
 use Rattle.spec.specs.Words.{convertSqrt, replaceRows}
 use Rattle.spec.specs.Table.{definitions}
 use Rattle.spec.specs.Pipeline.{markSolidus, onDisplay, definitionsOr}
-use Rattle.spec.specs.Laws.Booleans.{or-neither}
 use Rattle.text.specs.Stage.{shown, Ready, Answered, Staged, answered-ready, answered-then, staged-then}
 use Rattle.text.specs.declared.Progress.{Progress}
 use Rattle.text.specs.declared.Progress.the-variants.{Text, Refused}
 use Rattle.text_symbols.specs.Parts.{part}
 use Rattle.held_stages.specs.Outside.{UnmarkedProgress}
-use Rattle.held_laws.specs.Marks.{isMark, hasMark}
-use Rattle.stage_laws.specs.Each.{Each, done, more}
+use Rattle.held_laws.specs.Marks.{hasMark}
+use Rattle.stage_laws.specs.Each.{Each}
 use Rattle.stage_laws.specs.Calls.{unmarked}
 use Rattle.stage_laws.specs.Stages.{PassesUnmarked, pass, stop, beforeDefinitions, beforeWords}
+use Rattle.stage_laws.specs.Outside.{each-bare, bare-each}
 use Rattle.stages.specs.Fit.{Bare, Admissible}
 
 pub staged-ready : {w w′ : List ℕ} {p p′ : Progress} {f : List ℕ → Result (List ℕ)} → Ready w p → Staged w w′ p p′ f → Ready w′ p′
 staged-ready r s = answered-ready r (s .answered)
 
 -- ---- texts without a mark
-each-bare : {s : List ℕ} → Each unmarked s → hasMark s ≡ false
-each-bare done = refl
-each-bare (more {x} e a) = rw (not-true (isMark x) e, any) (each-bare a)
-
-bare-each : (s : List ℕ) → hasMark s ≡ false → Each unmarked s
-bare-each [] e = done
-bare-each (x ∷ s) e = let parts = or-neither (isMark x) (hasMark s) e in more (ap not (parts .0)) (bare-each s (parts .1))
-
 passes-bare : {r : Result (List ℕ)} → PassesUnmarked r → Bare r
 passes-bare (pass {s} a) = record { unmarked = λ t e. let same : s ≡ t = cc in subst (λ u. hasMark u ≡ false) same (each-bare a) }
 passes-bare (stop {n}) = record { unmarked = λ t e. absurd (differ e) }

@@ -10,7 +10,7 @@ use mathlib.Core.Option.{Option, none, some}
 use Prim.Native.Nat.{ℕ}
 use Rattle.spec.specs.Table.{Definition, definitions, precedes, inOrder}
 use Rattle.spec.specs.Laws.Order.{Distinct}
-use Rattle.spec.specs.Laws.Table.{sound-distinct}
+use Rattle.spec.specs.Laws.Table.{definitions-some, sound-distinct}
 use Rattle.spec.specs.Laws.Selection.{
   firstOf,
   sooner,
@@ -28,7 +28,6 @@ use Rattle.spec.specs.Laws.Selection.{
 }
 use Rattle.table.specs.Reading.{Lies, ReadingLies, definitionAt, nameAt}
 use Rattle.table.specs.Listed.{listed, listed-records}
-use Rattle.table.specs.Sound.{definitions-some}
 use Rattle.table.specs.declared.Record.{Record}
 use Rattle.table.specs.declared.Reading.{Reading}
 use Rattle.table.specs.declared.Reading.the-variants.{Whole, End, PastEnd}

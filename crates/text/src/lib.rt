@@ -20,7 +20,7 @@ pub const MOST_FORMULA: usize = 4_096;
 // The most symbols of a stage's finished text, and so the room of each of the two regions that texts lie in.
 pub const CAP: usize = 8_192;
 
-// Why a call is refused, by the trade's words.
+// Why a call is refused, by the trade's words. `LostBlock` is kept for its number: no call gives it.
 pub enum Refusal {
     ForeignByte,
     LongFormula,

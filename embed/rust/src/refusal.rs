@@ -3,7 +3,8 @@
 use std::fmt;
 
 /// The ten refusals, with their numbers. Where several hold, `NarrowWork` comes first, then `LongFormula`, `ForeignByte` and
-/// `FaultyTable`, then the first of `Overgrown` to `BarredSolidus` that is met on the way, and `ShortOutput` last.
+/// `FaultyTable`, then the first of `Overgrown` to `BarredSolidus` that is met on the way, and `ShortOutput` last. `LostBlock` is
+/// kept, so that the others keep their numbers; no call is refused by it.
 #[derive(Clone, Copy, Debug, PartialEq, Eq, Hash)]
 pub enum Refusal {
     ForeignByte = 1,
@@ -29,7 +30,7 @@ const ALL: [(Refusal, &str); 10] = [
     ),
     (Refusal::NarrowWork, "the work buffer has less than 32,768 bytes"),
     (Refusal::Overgrown, "the formula grows above 8,192 symbols on its way to LaTeX"),
-    (Refusal::LostBlock, "a piece of quoted text would be lost, as in upright(a \"b\")"),
+    (Refusal::LostBlock, "a piece of quoted text would be lost; no call is refused by it"),
     (Refusal::Unsettled, "more than 64 fractions stand one within the other"),
     (Refusal::BareDelimiter, "lr encloses a delimiter and nothing else, as in lr(|)"),
     (Refusal::BarredSolidus, "a denominator within bars holds an escaped slash, as in a/abs(b \\/ c)"),

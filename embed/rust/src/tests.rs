@@ -37,13 +37,20 @@ fn the_order_of_the_records_does_not_matter() {
 }
 
 #[test]
+fn quoted_text_goes_back_to_its_own_place() {
+    let none = HashMap::new();
+    let printed = |formula: &str| typst_to_latex(formula, &none, true);
+    assert_eq!(printed("upright(a \"b\")").as_deref(), Ok(r"\mathrm{a\;\text{b}}"));
+    assert_eq!(printed(r"\text{a}\text{b}0\text{c}").as_deref(), Ok(r"\text{a}\text{b}0\text{c}"));
+}
+
+#[test]
 fn refuses_by_its_number() {
     let none = HashMap::new();
     let refused = |formula: &str| typst_to_latex(formula, &none, true).unwrap_err();
     assert_eq!(refused("é"), Refusal::ForeignByte);
     assert_eq!(refused(&"a".repeat(FORMULA_BYTES + 1)), Refusal::LongFormula);
     assert_eq!(refused(&"op()".repeat(600)), Refusal::Overgrown);
-    assert_eq!(refused("upright(a \"b\")"), Refusal::LostBlock);
     assert_eq!(refused(&("a/(".repeat(64) + "a/a" + &")".repeat(64))), Refusal::Unsettled);
     assert_eq!(refused("lr(|)"), Refusal::BareDelimiter);
     assert_eq!(refused("a/abs(b \\/ c)"), Refusal::BarredSolidus);

@@ -9,9 +9,10 @@ use Rattle.text_symbols.specs.Parts.{part}
 use Rattle.text.specs.Stage.{shown}
 use Rattle.text.specs.Untouched.{untouched-same}
 use Rattle.table.specs.Sound.{not-refused}
+use Rattle.held_laws.specs.Instances.{order-sound}
 use Rattle.held_stages.specs.Outside.{holdable}
 use Rattle.held_stages.specs.Carried.{back-refused, carries-staged, outside-answered, texts-unused, outside-untouched}
-use Rattle.definitions.specs.Applying.{order-sound, definitions-held, definitions-kept, outside-by-held}
+use Rattle.definitions.specs.Applying.{definitions-held, definitions-kept, outside-by-held}
 use borrow.Author.Needs.{needs}
 use Rattle.definitions.proofs.apply_definitions_outside_text.Statement.{statement}
 use Rattle.definitions.proofs.apply_definitions_outside_text.Tie as tie

@@ -1,9 +1,9 @@
 -- `held_stages::put_all_back` meets its contract. Assumes nothing.
-use mathlib.Core.Path.{refl, sym, _∙_}
+use mathlib.Core.Path.{refl, sym}
 use native.Mathlib.Omega.{arith}
 use Rattle.spec.specs.Held.{withText, putBack}
 use Rattle.text.specs.Stage.{placed-low}
-use Rattle.held_stages.specs.Carried.{back-refused, back-none, lost-within, lost-few, lost-read, back-lost, romans-asked, texts-asked, back-whole}
+use Rattle.held_stages.specs.Carried.{back-refused, back-none, romans-asked, texts-asked, back-whole}
 use borrow.Author.Needs.{needs}
 use Rattle.held_stages.proofs.put_all_back.Statement.{statement}
 use Rattle.held_stages.proofs.put_all_back.Tie as tie
@@ -13,18 +13,6 @@ returns c = (λ h carries. back-refused (λ t. putBack (withText h t)) _ (c .enu
 
 returns-2 : tie.Need-returns-2
 returns-2 c = let e = c .before .before .text .given .1 in (λ h carries. back-none carries e (c .if1 .taken), λ none. (refl, sym e))
-
-lost-requires : tie.Need-lost-requires
-lost-requires c κs =
-    let at-start : tie.Start = search in
-    let carries = at-start .pre .carries in let e = c .before .before .before .text .given .1 in (lost-within carries e, lost-few carries e)
-
-returns-3 : tie.Need-returns-3
-returns-3 c =
-    let else1 : tie.Else1 = search in
-    let at-text : tie.After-text = search in
-    let e = at-text .text .given .1 in
-    (λ h carries. back-lost carries e (lost-read carries e (c .before .lost .ensures) ∙ c .if2 .taken), λ none. absurd (else1 .if1 .left none))
 
 sub-to : tie.Need-sub-to
 sub-to c =
@@ -44,17 +32,13 @@ put-back-requires-2 c κs =
     let at-start : tie.Start = search in
     let carries = at-start .pre .carries in let e = at-text .text .given .1 in texts-asked carries e (c .before .before .before .put-back .ensures)
 
-returns-4 : tie.Need-returns-4
-returns-4 c =
+returns-3 : tie.Need-returns-3
+returns-3 c =
     let at-put-back : tie.After-put-back = search in
-    let else2 : tie.Else2 = search in
-    let at-lost : tie.After-lost = search in
     let else1 : tie.Else1 = search in
     let at-text : tie.After-text = search in
-    let e = at-text .text .given .1 in (
-      λ h carries. back-whole carries e (at-put-back .put-back .ensures) (lost-read carries e (at-lost .lost .ensures) ∙ else2 .if2 .left) (c .before .before .put-back2 .ensures),
-      λ none. absurd (else1 .if1 .left none),
-    )
+    let e = at-text .text .given .1 in
+    (λ h carries. back-whole carries e (at-put-back .put-back .ensures) (c .before .before .put-back2 .ensures), λ none. absurd (else1 .if1 .left none))
 
 pub put-all-back-spec : {M : Type 1} → statement M
 put-all-back-spec =
@@ -64,11 +48,8 @@ put-all-back-spec =
     (λ c. search needs)
     returns
     returns-2
-    lost-requires
-    (λ c. search needs)
-    returns-3
     sub-to
     put-back-requires
     put-back-requires-2
     (λ c. search needs)
-    returns-4)
+    returns-3)

@@ -1,17 +1,18 @@
 -- Laws of tables: what does not depend on the order of their records, and what number 3 and admission make of them. Assumes nothing.
 --     records-long, bytes-same, length-same, faulty-same    the same records in whatever order are as long, as many and as faulty
 --     definitions-unless    number 3, by the records
+--     definitions-some      the definitions of a table are its records, none of them faulty
 --     admitted-same         of the table, admission asks only whether it is readable
 --     sound-distinct        no name of a sound table occurs twice
 --     sound-name-some       a sound name is not empty
 use mathlib.Core.Path.{_≡_, refl, sym, ap, ap₂, _∙_}
 use mathlib.Core.Bool.{Bool, true, false, cond, _||_, or-true, true≢false}
 use mathlib.Core.List.{List, [], _∷_, _++_}
-use mathlib.Core.Option.{Option, none, some, Option·map, Option·none-ne-some}
+use mathlib.Core.Option.{Option, none, some, Option·map, Option·none-ne-some, Option·some-injective}
 use Prim.Native.Nat.{ℕ, zero, suc, _+_, _≤_, _<_}
 use native.Mathlib.Omega.{arith}
 use lib.Dec.{ltb}
-use lib.ListN.{length, take, drop, length-take, length-drop}
+use lib.ListN.{length, drop, length-take, length-drop}
 use borrow.Author.Tests.{ltb-false}
 use Rattle.spec.specs.Symbols.{any, foreign, same}
 use Rattle.spec.specs.Result.{Result, refused}
@@ -138,6 +139,20 @@ wrong ds = ltb mostRecords (length ds) || faulty ds
 pub definitions-unless : (s : List ℕ) (ds : List Definition) → records s ≡ some ds → definitions s ≡ definitionsUnless (ltb mostBytes (length s)) (wrong ds) ds
 unfolding definitions
 definitions-unless s ds e = ap (λ o. elim (ltb mostBytes (length s)) as (λ _. Option (List Definition)) [ true ↦ none | false ↦ whole o ]) e
+
+pub definitions-some : (s : List ℕ) (ds : List Definition) → definitions s ≡ some ds → (records s ≡ some ds) × (faulty ds ≡ false)
+unfolding definitions
+definitions-some s ds e = go (ltb mostBytes (length s)) (records s) refl e
+  where
+    kept : (es : List Definition) (many wrong : Bool) → cond (many || wrong) none (some es) ≡ some ds → (es ≡ ds) × (wrong ≡ false)
+    kept es true wrong e = absurd (Option·none-ne-some ds e)
+    kept es false true e = absurd (Option·none-ne-some ds e)
+    kept es false false e = (Option·some-injective es ds e, refl)
+
+    go : (long : Bool) (o : Option (List Definition)) → records s ≡ o → _≡_ {A = Option (List Definition)} (elim long [ true ↦ none | false ↦ whole o ]) (some ds) → (records s ≡ some ds) × (faulty ds ≡ false)
+    go true o r e = absurd (Option·none-ne-some ds e)
+    go false none r e = absurd (Option·none-ne-some ds e)
+    go false (some es) r e = let k = kept es (ltb mostRecords (length es)) (faulty es) e in (r ∙ ap some (k .0), ap faulty (sym (k .0)) ∙ k .1)
 
 -- of the table, admission asks only whether it is readable
 pub admitted-same :

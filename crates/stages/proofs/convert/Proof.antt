@@ -3,6 +3,7 @@
 use Rattle.spec.specs.Pipeline.{typstToLatex}
 use Rattle.text.specs.Stage.{answered-ready, answered-then}
 use Rattle.stage_laws.specs.Stages.{before-definitions-passes}
+use Rattle.held_laws.specs.Instances.{table-sound}
 use Rattle.stage_laws.specs.Outside.{outside-passes}
 use Rattle.stages.specs.Chain.{staged-ready, first-stages, bare-after, fit-after}
 use borrow.Author.Needs.{needs}
@@ -51,7 +52,7 @@ convert-syntax-requires c κs =
     let s11 = c .before .before .before in
     let asked = apply-definitions-outside-text-requires (s11 .before) (κs .0, (κs .0, tt)) in
     let applied = s11 .apply-definitions-outside-text .ensures .0 in
-    (answered-ready (asked .0) applied, bare-after (outside-passes _) applied (asked .1 .bare))
+    (answered-ready (asked .0) applied, bare-after (outside-passes _ (table-sound _)) applied (asked .1 .bare))
 
 convert-alignment-requires : tie.Need-convert-alignment-requires
 convert-alignment-requires c κs =

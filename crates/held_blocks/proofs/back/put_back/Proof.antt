@@ -3,6 +3,7 @@ use Prim.Native.Nat.{_-_}
 use mathlib.Core.Path.{_≡_, refl}
 use native.Mathlib.Omega.{arith}
 use lib.ListN.{length}
+use Rattle.held_blocks.specs.Filing.{blocksRoom}
 use Rattle.held_blocks.specs.Back.{Returning, returning-none, returning-long, returning-all, back-room, filed-now, returning-mark, returning-other}
 use Rattle.held_blocks.proofs.back.put_back.Statement.{statement}
 use Rattle.held_blocks.proofs.back.put_back.Tie as tie
@@ -30,7 +31,7 @@ put-block-requires c κs =
     let met = c .before .if1 .taken in
     let long = returning-long o r in
     let room = o .long in
-    (back-room o r 11264 (omega arith) more, (filed-now o r more met, (omega arith, o .region)))
+    (back-room o r blocksRoom (omega arith) more, (filed-now o r more met, (omega arith, o .region)))
 
 add-k : tie.Need-add-k Inv-loop μ-loop
 add-k c =

@@ -7,6 +7,7 @@ use borrow.Author.Tests.{not-true, not-false}
 use lib.ListN.{length, length-take, length-drop}
 use Rattle.spec.specs.Result.{mostSymbols}
 use Rattle.text.specs.Writer.{apart-part, appended-long}
+use Rattle.held_blocks.specs.Filing.{placesRoom}
 use Rattle.held_blocks.specs.HoldOut.{Holding, holding-none, holding-long, text-room, block-room, place-room, name-fits, holding-all, holding-other, holding-rest, block-fits, holding-held}
 use Rattle.held_blocks.proofs.hold.hold_out.Statement.{statement}
 use Rattle.held_blocks.proofs.hold.hold_out.Tie as tie
@@ -124,7 +125,7 @@ put-requires c κs =
 record Bounds (i name k n listed : ℕ) : Type 0 where
   pub ends : i + name + k + 1 ≤ n
   pub short : n ≤ mostSymbols
-  pub few : listed ≤ 5120 + 4 * i
+  pub few : listed ≤ placesRoom + 4 * i
 
 bounds : (c : tie.After-known-told Inv-loop μ-loop) → (let at-loop : tie.At-loop Inv-loop μ-loop = search in let at-start : tie.Start Inv-loop μ-loop = search in Bounds (at-loop .loop .i) (length (at-start .args .name .now)) (c .before .k .given .0 .0) (at-start .args .n) (at-loop .loop .listed))
 bounds c =

@@ -11,14 +11,15 @@ use native.Mathlib.Omega.{arith}
 use lib.Dec.{ltb, eqb}
 use lib.ListN.{length}
 use borrow.Author.Tests.{eqb-true, ltb-true, lt-ltb, le-ltb}
-use Rattle.spec.specs.Held.{placeholder, restored}
 use Rattle.spec.specs.Laws.Booleans.{or-right}
-use Rattle.held_laws.specs.Marks.{isMark, hasMark, first, restNumbers, fill, numbersBelow, occurs, blockAt, not-text-mark}
-use Rattle.held_laws.specs.Replacing.{TextMarkFree, putBlock}
-use Rattle.held_laws.specs.Broken.{marked, broken, broken-put, broken-marked}
-use Rattle.held_laws.specs.Remains.{Remains, remains-put, remains-marked, remains-behind}
-use Rattle.held_laws.specs.Losing.{lostAt, lostBelow, nestedBelow, free-below}
-use Rattle.held_laws.specs.Round.{Good, RoundResult, whole, broke, putBackUpTo, round}
+use Rattle.held_laws.specs.Marks.{isMark, hasMark, blockAt, not-text-mark}
+use Rattle.held_placeholders.specs.Numbered.{placeholder, restored}
+use Rattle.held_placeholders.specs.Fill.{first, restNumbers, fill, numbersBelow, occurs}
+use Rattle.held_placeholders.specs.Replacing.{TextMarkFree, putBlock}
+use Rattle.held_placeholders.specs.Broken.{marked, broken, broken-put, broken-marked}
+use Rattle.held_placeholders.specs.Remains.{Remains, remains-put, remains-marked, remains-behind}
+use Rattle.held_placeholders.specs.Losing.{lostAt, lostBelow, nestedBelow, free-below}
+use Rattle.held_placeholders.specs.Round.{Good, RoundResult, whole, broke, putBackUpTo, round}
 
 unfoldable pub after : (ℕ → List ℕ) → ℕ → List ℕ → List ℕ
 after block zero s = s

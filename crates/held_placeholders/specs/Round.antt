@@ -12,14 +12,14 @@ use lib.Dec.{leb, ltb, eqb}
 use lib.ListN.{length, drop}
 use borrow.Author.Tests.{eqb-true, eqb-false, ltb-true, ltb-false, lt-ltb, le-ltb, le-leb, lt-leb}
 use Rattle.spec.specs.Symbols.{starts, textMark}
-use Rattle.spec.specs.Held.{placeholder}
 use Rattle.spec.specs.Laws.Symbols.{starts-unequal}
-use Rattle.held_laws.specs.Decimal.{decimal, Digits, decimal-digits}
-use Rattle.held_laws.specs.Marks.{isMark, first, restNumbers, fill, not-text-mark, mark-small}
-use Rattle.held_laws.specs.Replacing.{TextMarkFree, digit-not, numberMark, here-too, putBlock, put-none, put-other, put-mark, put-met, put-over, put-block-past, put-taken}
-use Rattle.held_laws.specs.Broken.{odd, broken, broken-behind, broken-digits, placeholder-even}
-use Rattle.held_laws.specs.Remains.{backslash}
-use Rattle.held_laws.specs.Losing.{digitsThenMark, takenForPlaceholder, lostAt}
+use Rattle.held_placeholders.specs.Numbered.{placeholder}
+use Rattle.held_placeholders.specs.Decimal.{decimal, Digits, decimal-digits}
+use Rattle.held_laws.specs.Marks.{backslash, isMark, not-text-mark}
+use Rattle.held_placeholders.specs.Fill.{first, restNumbers, fill, mark-small}
+use Rattle.held_placeholders.specs.Replacing.{TextMarkFree, digit-not, numberMark, here-too, putBlock, put-none, put-other, put-mark, put-met, put-over, put-block-past, put-taken}
+use Rattle.held_placeholders.specs.Broken.{odd, broken, broken-behind, broken-digits, placeholder-even}
+use Rattle.held_placeholders.specs.Losing.{digitsThenMark, takenForPlaceholder, lostAt}
 
 -- a block begins with a backslash, and its marks are those of whole placeholders
 pub record Good (block : List ℕ) : Type 0 where

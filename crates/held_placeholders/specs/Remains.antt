@@ -6,21 +6,18 @@ use mathlib.Core.Bool.{Bool, true, false, _&&_, _||_}
 use mathlib.Core.Logic.{inl, inr}
 use mathlib.Core.List.{List, [], _∷_, _++_, append-assoc}
 use Prim.Native.Nat.{ℕ, zero, suc, _≤_, _<_}
-use Prim.Native.Char.{code}
 use native.Mathlib.Nat.{not-suc-le-zero}
 use native.Mathlib.Omega.{arith}
 use lib.Dec.{eqb}
 use lib.ListN.{length, drop, length-append}
 use borrow.Author.Tests.{ne-eqb, eqb-true}
 use Rattle.spec.specs.Symbols.{starts, textMark}
-use Rattle.spec.specs.Held.{placeholder}
 use Rattle.spec.specs.Laws.Symbols.{starts-split, starts-unequal}
-use Rattle.held_laws.specs.Decimal.{decimal, Digit, Digits, decimal-digits}
-use Rattle.held_laws.specs.Replacing.{TextMarkFree, digit-not, numberMark, here-too, placeholder-long, putBlock, put-none, put-not, put-other, put-mark, put-met, put-over, put-taken}
-use Rattle.held_laws.specs.Broken.{marked}
-
-abbrev pub backslash : ℕ
-backslash = code "\\"
+use Rattle.held_laws.specs.Marks.{backslash}
+use Rattle.held_placeholders.specs.Numbered.{placeholder}
+use Rattle.held_placeholders.specs.Decimal.{decimal, Digit, Digits, decimal-digits}
+use Rattle.held_placeholders.specs.Replacing.{TextMarkFree, digit-not, numberMark, here-too, placeholder-long, putBlock, put-none, put-not, put-other, put-mark, put-met, put-over, put-taken}
+use Rattle.held_placeholders.specs.Broken.{marked}
 
 pub record Remains (i : ℕ) (s : List ℕ) : Type 0 where
   pub left : List ℕ

@@ -10,16 +10,17 @@ use lib.Dec.{ltb, eqb}
 use lib.ListN.{drop}
 use borrow.Author.Tests.{ltb-true}
 use Rattle.spec.specs.Symbols.{textMark}
-use Rattle.spec.specs.Held.{placeholder}
 use Rattle.spec.specs.Laws.Booleans.{or-neither}
-use Rattle.held_laws.specs.Decimal.{decimal, decimal-digits, decimal-injective}
-use Rattle.held_laws.specs.Marks.{isMark, hasMark, first, restNumbers, fill, numbersBelow, occurs, not-text-mark, fill-unmarked}
-use Rattle.held_laws.specs.Replacing.{TextMarkFree, here-too, same-digits}
-use Rattle.held_laws.specs.Broken.{odd, odd-append, placeholder-even}
-use Rattle.held_laws.specs.Remains.{backslash, Remains}
-use Rattle.held_laws.specs.Losing.{lostBelow, nestedBelow, none-below}
-use Rattle.held_laws.specs.Round.{Good}
-use Rattle.held_laws.specs.Agree.{after, fill-below, Nested, SameUnlessLost, agree}
+use Rattle.held_placeholders.specs.Numbered.{placeholder}
+use Rattle.held_placeholders.specs.Decimal.{decimal, decimal-digits, decimal-injective}
+use Rattle.held_laws.specs.Marks.{backslash, isMark, hasMark, not-text-mark}
+use Rattle.held_placeholders.specs.Fill.{first, restNumbers, fill, numbersBelow, occurs, fill-unmarked}
+use Rattle.held_placeholders.specs.Replacing.{TextMarkFree, here-too, same-digits}
+use Rattle.held_placeholders.specs.Broken.{odd, odd-append, placeholder-even}
+use Rattle.held_placeholders.specs.Remains.{Remains}
+use Rattle.held_placeholders.specs.Losing.{lostBelow, nestedBelow, none-below}
+use Rattle.held_placeholders.specs.Round.{Good}
+use Rattle.held_placeholders.specs.Agree.{after, fill-below, Nested, SameUnlessLost, agree}
 
 -- block k: its marks have the numbers js, which are below k
 pub record StoredAs (k : ℕ) (stored rust : List ℕ) : Type 0 where

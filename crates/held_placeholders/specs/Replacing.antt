@@ -14,9 +14,9 @@ use borrow.Author.Tests.{eq-eqb, ne-eqb, eqb-true}
 use Rattle.spec.specs.Symbols.{starts, textMark}
 use Rattle.spec.specs.Sweep.{Rule, sweep, replacing, replace}
 use Rattle.spec.specs.Laws.Symbols.{starts-self, starts-split, starts-unequal}
-use Rattle.spec.specs.Held.{placeholder}
 use Rattle.spec.specs.Laws.Booleans.{and-parts}
-use Rattle.held_laws.specs.Decimal.{decimal, Digit, Digits, decimal-digits, decimal-injective}
+use Rattle.held_placeholders.specs.Numbered.{placeholder}
+use Rattle.held_placeholders.specs.Decimal.{decimal, Digit, Digits, decimal-digits, decimal-injective}
 
 -- ---- starts
 -- the first symbol is another

@@ -11,13 +11,15 @@ use native.Mathlib.Nat.{add-zero, add-suc, suc-add}
 use native.Mathlib.Omega.{arith}
 use lib.Dec.{eqb, ltb}
 use lib.ListN.{length}
-use borrow.Author.Tests.{eqb-true, eqb-false, lt-ltb}
+use borrow.Author.Tests.{eqb-false, lt-ltb}
 use Rattle.spec.specs.Symbols.{textMark, romanMark}
-use Rattle.spec.specs.Held.{placeholder, marks, numbered, numberedRomans}
+use Rattle.spec.specs.Held.{marks}
 use Rattle.spec.specs.Laws.Booleans.{or-neither, or-right}
-use Rattle.held_laws.specs.Marks.{isMark, hasMark, count, first, restNumbers, order, fill, numbersBelow, occurs, blockAt, concat, has-mark-append, fill-unmarked}
-use Rattle.held_laws.specs.Stored.{StoredAs}
+use Rattle.held_laws.specs.Marks.{isMark, hasMark, count, blockAt, concat, not-both, has-mark-append}
+use Rattle.held_placeholders.specs.Numbered.{placeholder, numbered, numberedRomans}
+use Rattle.held_placeholders.specs.Fill.{first, restNumbers, order, fill, numbersBelow, occurs, fill-unmarked}
+use Rattle.held_placeholders.specs.Stored.{StoredAs}
 use Rattle.held_laws.specs.WellMade.{Every, MarkFreeBlock, Enclosing, count-append, marks-count, unmarked-count}
 
 unfoldable pub numbers : List (List ℕ) → ℕ → ℕ → List ℕ → List ℕ
 numbers romans t r [] = []
@@ -26,10 +28,6 @@ numbers romans t r (x ∷ s) =
     (cond (eqb x romanMark)
     (r ∷ elim romans as (λ _. List ℕ) [ [] ↦ numbers [] t (suc r) s | b ∷ bs ↦ numbers bs (t + marks b) (suc r) s ])
     (numbers romans t r s))
-
--- no symbol is both marks
-pub not-both : {A : Type 0} (x : ℕ) → eqb x textMark ≡ true → eqb x romanMark ≡ true → A
-not-both x e f = let p = eqb-true x textMark e in let q = eqb-true x romanMark f in absurd (omega arith)
 
 pub numbered-fill : (s : List ℕ) (romans : List (List ℕ)) (t r : ℕ) → numbered romans t r s ≡ fill placeholder (numbers romans t r s) s
 unfolding numbered numbers fill

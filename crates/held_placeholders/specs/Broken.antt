@@ -13,10 +13,10 @@ use lib.Dec.{eqb}
 use lib.ListN.{length, drop, length-append}
 use borrow.Author.Tests.{le-leb}
 use Rattle.spec.specs.Symbols.{starts, digit, any, textMark}
-use Rattle.spec.specs.Held.{placeholder}
 use Rattle.spec.specs.Laws.Symbols.{starts-split}
-use Rattle.held_laws.specs.Decimal.{decimal, Digits, decimal-digits}
-use Rattle.held_laws.specs.Replacing.{TextMarkFree, digit-unmarked, digits-unmarked, placeholder-long, putBlock, put-not, put-met}
+use Rattle.held_placeholders.specs.Numbered.{placeholder}
+use Rattle.held_placeholders.specs.Decimal.{decimal, Digits, decimal-digits}
+use Rattle.held_placeholders.specs.Replacing.{TextMarkFree, digit-unmarked, digits-unmarked, placeholder-long, putBlock, put-not, put-met}
 
 -- a mark is left: number 6
 abbrev pub marked : List ℕ → Bool

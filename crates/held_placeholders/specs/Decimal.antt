@@ -9,8 +9,8 @@ use Prim.Native.Char.{code}
 use native.Mathlib.Omega.{arith}
 use borrow.Author.Tests.{eqb-true, eqb-false}
 use Rattle.spec.specs.Symbols.{is}
-use Rattle.spec.specs.Held.{up, counted}
-pub use Rattle.spec.specs.Held.{decimal}
+use Rattle.spec.specs.Program.{up, counted}
+pub use Rattle.spec.specs.Program.{decimal}
 
 -- a digit as a number: from the code of `0` to that of `9`
 pub record Digit (d : ℕ) : Type 0 where

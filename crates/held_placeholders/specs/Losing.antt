@@ -10,9 +10,10 @@ use native.Mathlib.Nat.{not-suc-le-zero}
 use native.Mathlib.Omega.{arith}
 use lib.Dec.{eqb, leb, ltb}
 use borrow.Author.Tests.{eqb-true, eqb-false}
-use Rattle.held_laws.specs.Decimal.{decimal}
-use Rattle.held_laws.specs.Marks.{isMark, hasMark, first, restNumbers, not-text-mark}
-use Rattle.held_laws.specs.Replacing.{TextMarkFree}
+use Rattle.held_placeholders.specs.Decimal.{decimal}
+use Rattle.held_laws.specs.Marks.{isMark, hasMark, not-text-mark}
+use Rattle.held_placeholders.specs.Fill.{first, restNumbers}
+use Rattle.held_placeholders.specs.Replacing.{TextMarkFree}
 use Rattle.spec.specs.Laws.Booleans.{or-neither}
 
 -- the digits stand here, and a mark behind them

@@ -1,2 +1,0 @@
--- The loops that read numbers and marks.
-pub mod Reading
