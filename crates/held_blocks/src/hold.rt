@@ -4,7 +4,7 @@ use text_search::Found;
 ghost use Prim.Native.Nat.{_+_, _<_, _≤_};
 ghost use lib.ListN.{length};
 ghost use Rattle.text_symbols.specs.Parts.{part};
-ghost use Rattle.text.specs.Writer.{Room, Appended, Apart};
+ghost use Rattle.text.specs.Writer.{Room, Appended};
 ghost use Rattle.held_blocks.specs.Filing.{blocksAt, blocksRoom, placesAt, placesRoom, pair, place, BlockFiled, HeldOut};
 ghost use Rattle.held_blocks.specs.HoldOut.{Hold, takenFrom};
 

@@ -43,7 +43,7 @@ module _ (mark : ℕ) where
   filled-other x [] s e = ap (λ l. x ∷ l) (sym (filled-none mark s))
   filled-other x (b ∷ bs) s e = rw (e, filled)
 
-  pub filled-parts : (own bs : List (List ℕ)) (x s : List ℕ) → count mark x ≡ length own → filled mark (own ++ bs) (x ++ s) ≡ filled mark own x ++ filled mark bs s
+  filled-parts : (own bs : List (List ℕ)) (x s : List ℕ) → count mark x ≡ length own → filled mark (own ++ bs) (x ++ s) ≡ filled mark own x ++ filled mark bs s
   unfolding filled count
   filled-parts [] bs [] s e = refl
   filled-parts (a ∷ own) bs [] s e = absurd (omega arith)
@@ -99,6 +99,7 @@ every-drop P (suc n) (b ∷ bs) all = every-drop P n bs (all .1)
 abbrev byEnclosers : ℕ → List (Option ℕ) → List (List ℕ) → List (List ℕ) → List ℕ → List ℕ
 byEnclosers r es texts romans s = filled romanMark (completed r (textBlocks es texts) romans) (filled textMark (enclosed inNone (textBlocks es texts)) s)
 
+-- what the code writes: each kind at its marks, in their order
 abbrev pub byOrder : List (List ℕ) → List (List ℕ) → List ℕ → List ℕ
 byOrder texts romans s = filled textMark texts (filled romanMark romans s)
 

@@ -3,7 +3,6 @@
 --     Between     a rule that rewrites a name, by what stands before it and behind it, and copies everything else
 --     sweep-marks such a sweep leaves every mark, in its order
 --     sweep-made  so it keeps what is held well made
---     sweep-free  a sweep that writes no mark leaves a text without marks so
 use mathlib.Core.Path.{_≡_, refl, sym, ap, ap₂, _∙_}
 use mathlib.Core.Bool.{Bool, true, false, cond, _&&_, _||_, false≢true}
 use mathlib.Core.List.{List, [], _∷_, _++_}
@@ -19,7 +18,7 @@ use Rattle.spec.specs.Sweep.{Rule, kept, taken, sweep}
 use Rattle.spec.specs.Held.{Held, marks, enclosersOf, textBlocks, withText}
 use Rattle.spec.specs.Laws.Booleans.{or-neither}
 use Rattle.spec.specs.Laws.Symbols.{starts-split}
-use Rattle.held_laws.specs.Marks.{isMark, hasMark, count, has-mark-append}
+use Rattle.held_laws.specs.Marks.{isMark, hasMark, count}
 use Rattle.held_laws.specs.WellMade.{textsOf, WellMade}
 use Rattle.held_laws.specs.Enclosed.{enclosers-text, enclosers-roman, enclosers-other}
 
@@ -108,19 +107,6 @@ module _ (rule : Rule) (even : (before x : ℕ) (s : List ℕ) → marksOf (rule
       ∙ sym (marks-append (take (suc (turn .more)) (x ∷ s)) (drop (turn .more) s))
       ∙ ap marksOf (take-append-drop (suc (turn .more)) (x ∷ s))
   sweep-even (x ∷ s) before (suc skip) = sweep-even s x skip
-
--- ---- a sweep that writes no mark, of a text without marks
-pub sweep-free :
-    (rule : Rule) → ((before x : ℕ) (s : List ℕ) → hasMark (x ∷ s) ≡ false → hasMark (rule before (x ∷ s) .fresh) ≡ false)
-    → (s : List ℕ) (before skip : ℕ) → hasMark s ≡ false → hasMark (sweep rule before skip s) ≡ false
-unfolding sweep
-sweep-free rule writes [] before zero free = refl
-sweep-free rule writes [] before (suc skip) free = refl
-sweep-free rule writes (x ∷ s) before zero free =
-    let turn = rule before (x ∷ s) in
-    has-mark-append (turn .fresh) (sweep rule x (turn .more) s)
-    ∙ ap₂ (λ a b. a || b) (writes before x s free) (sweep-free rule writes s x (turn .more) (or-neither (isMark x) (hasMark s) free .1))
-sweep-free rule writes (x ∷ s) before (suc skip) free = sweep-free rule writes s x skip (or-neither (isMark x) (hasMark s) free .1)
 
 -- ---- a rule between marks writes the marks that it takes
 module _ {rule : Rule} (between : Between rule) where

@@ -26,10 +26,6 @@ pub data EachPart (f : ℕ → Bool) : List (List ℕ) → Type 0 where
   none-left : EachPart f []
   part : {s : List ℕ} {ss : List (List ℕ)} → Each f s → EachPart f ss → EachPart f (s ∷ ss)
 
-pub each-by : {f g : ℕ → Bool} → ((x : ℕ) → f x ≡ true → g x ≡ true) → {s : List ℕ} → Each f s → Each g s
-each-by h done = done
-each-by h (more {x} e a) = more (h x e) (each-by h a)
-
 module _ {f : ℕ → Bool} where
   pub each-of : (s : List ℕ) → all f s ≡ true → Each f s
   each-of [] e = done
