@@ -42,6 +42,7 @@ int main(void)
     convert("U_1 = U_0 10^(gain/20)");
     convert("L = 20 log_10 (U/U_0) \"dB\"");
     convert("f_0 = 1/(2 pi sqrt(L C))");
+    convert("op(\"U (peak)\")_1");
     convert("lr(|)");
     return 0;
 }

@@ -2,6 +2,7 @@
 
 use super::definitions::{one_order, DEFINITIONS_MARK};
 use super::judge::{self, refused_before_stages, typst_to_latex, Case, LostBlock, Stages, Trouble};
+use super::passing;
 use super::words::WORDS_MARK;
 use std::collections::{BTreeMap, HashMap};
 use std::panic::{catch_unwind, AssertUnwindSafe};
@@ -57,14 +58,16 @@ fn unless_panic<T>(f: impl FnOnce() -> T) -> Option<T> {
     catch_unwind(AssertUnwindSafe(f)).ok()
 }
 
-/// What the Rust is asked with: its definitions, whether the unchanged Rust has one order of them only, and the block that it loses.
-/// The test copy is always asked, the unchanged Rust where it has one order and loses none.
+/// What the Rust is asked with: its definitions, whether the unchanged Rust has one order of them only, the block that it loses,
+/// and whether a call's search passes over a parenthesis, which the unchanged one would not. The test copy is always asked, the
+/// unchanged Rust where it has one order, loses no block and nothing is passed over.
 struct Asked<'a> {
     case: &'a Case,
     formula: &'a str,
     map: HashMap<String, String>,
     one_order: bool,
     lost: Option<LostBlock>,
+    passed_over: bool,
 }
 
 pub fn check(case: &Case, findings: &mut Findings) {
@@ -77,20 +80,22 @@ pub fn check(case: &Case, findings: &mut Findings) {
     let run = |limit: usize| {
         let mut stages = Stages::new(limit);
         let converted = typst_to_latex(formula, &records, case.display, &mut stages);
-        (converted, stages.lost)
+        (converted, stages)
     };
-    let (mut converted, mut lost) = run(judge::STAGE_SYMBOLS);
-    if lost.is_some() {
+    let (mut converted, mut stages) = run(judge::STAGE_SYMBOLS);
+    if stages.lost.is_some() && !stages.passed_over {
         findings.count("the base refuses 6");
     }
     let overgrown = matches!(&converted, Err(trouble) if trouble.number == 5);
     if overgrown {
         // The same stages with more room must still be the Rust's.
         findings.count("5 overgrown");
-        (converted, lost) = run(60_000);
+        (converted, stages) = run(60_000);
     }
-    let asked = Asked { case, formula, map, one_order: one_order(&records), lost };
+    let Stages { lost, passed_over, .. } = stages;
+    let asked = Asked { case, formula, map, one_order: one_order(&records), lost, passed_over };
     findings.count(if asked.one_order { "one order only" } else { "several orders, asked of the test copy" });
+    call_stages(&asked, findings);
     lost_block(&asked, findings);
     match converted {
         Ok(latex) if overgrown => same_text("overgrown, followed to its end", &asked, &latex, findings),
@@ -112,7 +117,7 @@ pub fn check(case: &Case, findings: &mut Findings) {
 }
 
 fn same_text(what: &str, asked: &Asked, latex: &str, findings: &mut Findings) {
-    let Asked { case, formula, map, one_order, lost } = asked;
+    let Asked { case, formula, map, one_order, lost, passed_over } = asked;
     let copy = unless_panic(|| crate::changed::typst_to_latex(formula, map, case.display));
     let same = |rust: &Option<String>| rust.as_deref() == Some(latex);
     match copy {
@@ -120,7 +125,7 @@ fn same_text(what: &str, asked: &Asked, latex: &str, findings: &mut Findings) {
         copy if same(&copy) => findings.count(&format!("{what}: the test copy's bytes")),
         Some(_) => findings.disagree(&format!("{what}: other bytes than the test copy's"), case),
     }
-    if *one_order && lost.is_none() {
+    if *one_order && lost.is_none() && !passed_over {
         match unless_panic(|| crate::typst_to_latex(formula, map, case.display)) {
             None => findings.disagree(&format!("{what}: the Rust panics"), case),
             rust if same(&rust) => findings.count(&format!("{what}: the Rust's bytes")),
@@ -145,6 +150,22 @@ fn check_trouble(trouble: &Trouble, asked: &Asked, findings: &mut Findings) {
         9 => barred_solidus(trouble, case, findings),
         number => findings.disagree(&format!("no such trouble {number}"), case),
     }
+}
+
+/// The call stages one by one: where nothing is passed over, the unchanged function gives the same text.
+fn call_stages(asked: &Asked, findings: &mut Findings) {
+    let found = passing::call_stages(asked.formula);
+    if let Some(wrong) = found.disagreement {
+        return findings.disagree(&format!("calls: {wrong}"), asked.case);
+    }
+    if asked.passed_over != (found.passing > 0) {
+        return findings.disagree("calls: passed over in one run only", asked.case);
+    }
+    findings.count(match (found.passing, found.other_text) {
+        (0, _) => "calls: each stage gives the unchanged function's text",
+        (_, 0) => "a search passes over a parenthesis: each stage gives the unchanged function's text all the same",
+        _ => "a search passes over a parenthesis: a stage gives another text",
+    });
 }
 
 /// Where a block is lost, the unchanged function leaves the mark in its text.

@@ -11,6 +11,7 @@ mod generate;
 mod grammar;
 mod judge;
 mod lengths;
+mod passing;
 mod pieces;
 mod plain;
 #[cfg(feature = "library")]
@@ -23,6 +24,7 @@ mod stages;
 mod table;
 mod tables;
 mod traps;
+pub mod veil;
 mod word_tables;
 mod words;
 mod workers;

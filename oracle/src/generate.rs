@@ -2,11 +2,12 @@
 
 use super::judge::{judge, Case, FORMULA_BYTES, STAGE_SYMBOLS, WORK_BYTES};
 use super::rng::Rng;
+use super::table::record_bytes;
 use super::{lengths, pieces, plain, tables, traps};
 use super::word_tables::{FUNCTION_MAPPINGS, GREEK_LETTERS, OPERATOR_REPLACEMENTS, WORD_MAPPINGS};
 
 /// Number, name, and how often a generated case is of this family (0: written by hand, see traps.txt).
-pub const FAMILIES: [(u8, &str, usize); 28] = [
+pub const FAMILIES: [(u8, &str, usize); 29] = [
     (0, "document", 0),
     (1, "readings", 0),
     (2, "order", 0),
@@ -35,6 +36,7 @@ pub const FAMILIES: [(u8, &str, usize); 28] = [
     (25, "buffers", 500),
     (26, "equal lengths", 600),
     (27, "enclosed", 700),
+    (28, "quoted", 700),
 ];
 
 pub fn family_number(name: &str) -> Option<u8> {
@@ -78,6 +80,7 @@ pub fn of_family(family: u8, rng: &mut Rng, depth: usize) -> Case {
         "defined" => return defined(rng, tables::good, deep),
         "equal lengths" => return defined(rng, tables::of_one_length, deep),
         "enclosed" => return enclosed(rng, deep),
+        "quoted" => return quoted(rng, deep),
         "tables" => return with_fault(rng, deep),
         "long" => return long(rng),
         "growth" => return growth(rng),
@@ -212,6 +215,27 @@ fn enclosed(rng: &mut Rng, deep: usize) -> Case {
     Case { table, ..usual(rng, formula) }
 }
 
+/// Calls with parentheses between quotes; seldom as many quotes as a formula holds.
+fn quoted(rng: &mut Rng, deep: usize) -> Case {
+    if rng.once_in(150) {
+        let all = lengths::many_quotes();
+        let formula = all[rng.below(all.len())].clone().into_bytes();
+        return Case { formula, ..usual(rng, Vec::new()) };
+    }
+    let mut text = pieces::quoted_calls(rng, deep);
+    if rng.once_in(8) {
+        text = pieces::mutate(rng, &text);
+    }
+    if rng.once_in(5) {
+        // Behind the calls only definitions bring quotes, which no search passes over.
+        let table = record_bytes(b"gain", pieces::label(rng).as_bytes());
+        let uses = ["lr((gain))", "lr(gain)", "lr(|gain|)", "lr([gain", "sqrt(gain)", "x_(gain)", "(gain)/2", "a/(gain)"];
+        text.push_str(rng.pick(&uses));
+        return Case { table, ..usual(rng, text.into_bytes()) };
+    }
+    usual(rng, text.into_bytes())
+}
+
 fn with_fault(rng: &mut Rng, deep: usize) -> Case {
     let mut fault = rng.below(tables::FAULTS);
     // Tables of the greatest size are few.
@@ -273,7 +297,7 @@ pub fn merge_refusal(rng: &mut Rng, case: &mut Case, number: usize) {
         }
         5 => {
             if !tables::names(&case.table).iter().any(|name| name == "over") {
-                case.table.extend(super::table::record_bytes(b"over", &[b'z'; 1_023]));
+                case.table.extend(record_bytes(b"over", &[b'z'; 1_023]));
             }
             " over".repeat(9)
         }

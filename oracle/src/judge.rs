@@ -1,12 +1,13 @@
 //! The judge: the answer of document 01 for one call.
 //!
 //! The stages are the functions of `math_conv.rs` itself (they stand in the crate's root), called one by one with the
-//! length check between them. Where a check lies inside a function, the function's body is transcribed in
-//! `definitions.rs`, `words.rs` and `fractions.rs`; those lines, and the order of stages below, come from `math_conv.rs`
-//! (Pragmastat, Copyright (c) 2025 Andrey Akinshin, MIT licence).
+//! length check between them; the call rewritings are those of the test copy (A8). Where a check lies inside a function, the
+//! function's body is transcribed in `definitions.rs`, `words.rs` and `fractions.rs`; those lines, and the order of stages below,
+//! come from `math_conv.rs` (Pragmastat, Copyright (c) 2025 Andrey Akinshin, MIT licence).
 
 use super::table::{self, Record};
-use super::{definitions, words};
+use super::{definitions, veil, words};
+use crate::changed;
 
 pub const FORMULA_BYTES: usize = 4_096;
 pub const WORK_BYTES: usize = 32_768;
@@ -62,16 +63,18 @@ pub struct LostBlock {
     pub text: String,
 }
 
-/// The limit on a stage's finished text, the lengths met so far, and where the base refused 6.
+/// The limit on a stage's finished text, the lengths met so far, where the base refused 6, and whether a closing search passed over
+/// a parenthesis, which the base does not.
 pub struct Stages {
     limit: usize,
     pub lengths: Vec<(String, usize)>,
     pub lost: Option<LostBlock>,
+    pub passed_over: bool,
 }
 
 impl Stages {
     pub fn new(limit: usize) -> Self {
-        Stages { limit, lengths: Vec::new(), lost: None }
+        Stages { limit, lengths: Vec::new(), lost: None, passed_over: false }
     }
 
     /// Only the first loss counts: behind it the unchanged Rust has another text.
@@ -130,15 +133,12 @@ pub fn typst_to_latex(
 ) -> Result<String, Trouble> {
     let mut result = typst_math.to_string();
     result = stages.finished("solidus", result.replace("\\/", crate::LITERAL_SOLIDUS))?;
-    result = stages.finished("op", crate::convert_op(&result))?;
-    result = stages.finished("cases", crate::convert_cases(&result))?;
-    // Judged by its finished text, however long it was between two rewritings.
-    result = stages.finished("attach", crate::convert_attach(&result))?;
-    result = stages.finished("bb", crate::convert_bb(&result))?;
-    result = stages.finished("bold", crate::convert_bold(&result))?;
-    result = stages.finished("binom", crate::convert_binom(&result))?;
-    result = stages.finished("upright", crate::convert_upright(&result))?;
-    result = convert_floor_ceil_abs(&result, stages)?;
+    for call in CALLS {
+        // `attach` too is judged by its finished text, however long it was between two rewritings.
+        let (next, passed_over) = veil::watched(|| (call.copy)(&result));
+        stages.passed_over |= passed_over;
+        result = stages.finished(call.stage, next)?;
+    }
     result = stages.finished("quotes", crate::convert_text_quotes(&result))?;
     result = definitions::apply_definitions_outside_text(&result, records, stages)?;
     result = words::convert_syntax(&result, display, stages)?;
@@ -147,18 +147,42 @@ pub fn typst_to_latex(
     Ok(result)
 }
 
-fn convert_floor_ceil_abs(input: &str, stages: &mut Stages) -> Result<String, Trouble> {
-    let mut result = input.to_string();
-    for (func_name, left_delim, right_delim) in [
-        ("floor(", "\\left\\lfloor ", " \\right\\rfloor"),
-        ("ceil(", "\\left\\lceil ", " \\right\\rceil"),
-        ("abs(", "\\left\\lvert ", " \\right\\rvert"),
-        ("cal(", "\\mathcal{", "}"),
-        ("frak(", "\\mathfrak{", "}"),
-        ("upright(", "\\mathrm{", "}"),
-    ] {
-        let next = crate::convert_delimiter_func(&result, func_name, left_delim, right_delim);
-        result = stages.finished(func_name, next)?;
-    }
-    Ok(result)
+/// A rewriting of calls: the test copy's function, and the unchanged one.
+pub struct Call {
+    pub stage: &'static str,
+    pub copy: fn(&str) -> String,
+    pub unchanged: fn(&str) -> String,
 }
+
+macro_rules! named {
+    ($stage:literal, $function:ident) => {
+        Call { stage: $stage, copy: changed::$function, unchanged: crate::$function }
+    };
+}
+
+/// The six of `convert_floor_ceil_abs`.
+macro_rules! delimited {
+    ($func_name:literal, $left_delim:literal, $right_delim:literal) => {
+        Call {
+            stage: $func_name,
+            copy: |input| changed::convert_delimiter_func(input, $func_name, $left_delim, $right_delim),
+            unchanged: |input| crate::convert_delimiter_func(input, $func_name, $left_delim, $right_delim),
+        }
+    };
+}
+
+pub const CALLS: [Call; 13] = [
+    named!("op", convert_op),
+    named!("cases", convert_cases),
+    named!("attach", convert_attach),
+    named!("bb", convert_bb),
+    named!("bold", convert_bold),
+    named!("binom", convert_binom),
+    named!("upright", convert_upright),
+    delimited!("floor(", "\\left\\lfloor ", " \\right\\rfloor"),
+    delimited!("ceil(", "\\left\\lceil ", " \\right\\rceil"),
+    delimited!("abs(", "\\left\\lvert ", " \\right\\rvert"),
+    delimited!("cal(", "\\mathcal{", "}"),
+    delimited!("frak(", "\\mathfrak{", "}"),
+    delimited!("upright(", "\\mathrm{", "}"),
+];

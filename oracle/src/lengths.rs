@@ -1,6 +1,7 @@
 //! Formulas around the limits: 4,096 bytes, 8,192 symbols at a chosen stage, 64 rounds.
 
-use super::judge::{typst_to_latex, Case, Stages, STAGE_SYMBOLS, WORK_BYTES};
+use super::judge::{typst_to_latex, Case, Stages, FORMULA_BYTES, STAGE_SYMBOLS, WORK_BYTES};
+use super::pieces::CALLS;
 use super::rng::Rng;
 use super::table::{self, record_bytes};
 
@@ -22,7 +23,7 @@ const fn late(stage: &'static str, head: &'static str, piece: &'static str, tail
     Growth { stage, head, piece, tail, pumped: true }
 }
 
-pub const GROWTHS: [Growth; 68] = [
+pub const GROWTHS: [Growth; 71] = [
     early("op", "", "op()", ""),
     early("cases", "cases(", "a,", "a)"),
     early("attach", "", "op()op()op()op()attach(,b:c)", ""),
@@ -100,6 +101,10 @@ pub const GROWTHS: [Growth; 68] = [
     late("mp", "\\mathrm{", "\\text{mp}", "}mp"),
     late("Psi", "", "\\mathrm{Phi\\text{Psi}}1", ""),
     late("_\\text{", "", "_\\text{}\\text{}0\\text{}", ""),
+    // Parentheses that a search passes over.
+    early("op", "", "op(\")\")", ""),
+    early("cases", "cases(", "\",)\",", "a)"),
+    early("floor(", "", "floor(\"(\")", ""),
 ];
 
 const PUMPS: usize = 31;
@@ -191,6 +196,21 @@ pub fn typed_blocks() -> Vec<String> {
         (0..340).map(|number| format!("\\text{{}}{number}")).collect(),
         (0..340).rev().map(|number| format!("\\text{{}}{number}")).collect(),
     ]
+}
+
+/// Formulas of 4,096 bytes, by themselves and as the argument of each call: quotes alone, an even and an odd number of them (5
+/// refuses most of these), and quoted parentheses.
+pub fn many_quotes() -> Vec<String> {
+    let mut formulas = Vec::new();
+    for head in [""].into_iter().chain(CALLS) {
+        let close = if head.is_empty() { "" } else { ")" };
+        for (piece, end) in [("\"", ""), ("\"", "x"), ("\"))))))\"+", ""), ("\"(((,(((\"+", "")] {
+            let room = FORMULA_BYTES - head.len() - end.len() - close.len();
+            let quotes = piece.repeat(room / piece.len()) + &"+".repeat(room % piece.len());
+            formulas.push(format!("{head}{quotes}{end}{close}"));
+        }
+    }
+    formulas
 }
 
 /// Ways to nest a fraction in another: the first six in the denominator, a round for each; the others in the numerator,

@@ -245,6 +245,70 @@ fn between(rng: &mut Rng) -> String {
     }
 }
 
+/// Calls with quotes in them and around them, nested and broken. In most a search passes over a parenthesis.
+pub fn quoted_calls(rng: &mut Rng, depth: usize) -> String {
+    let mut text = String::new();
+    for _ in 0..rng.between(1, 2) {
+        if rng.once_in(3) {
+            text.push_str(&label(rng));
+        }
+        text.push_str(&quoted_call(rng, depth));
+        text.push_str(rng.pick(&["", "", " ", " + ", "/2", "\"", ")", ","]));
+    }
+    text
+}
+
+fn quoted_call(rng: &mut Rng, depth: usize) -> String {
+    // The last two, roots and `lr`, pass over nothing.
+    let head = if rng.once_in(12) { rng.pick(&CALLS[12..]) } else { rng.pick(&CALLS[..12]) };
+    let mut text = head.to_string() + &quoted_argument(rng, depth);
+    match head {
+        "cases(" => {
+            for _ in 0..rng.below(3) {
+                text = text + rng.pick(&[",", ", ", " , "]) + &quoted_argument(rng, depth);
+            }
+        }
+        "attach(" => text = text + rng.pick(&[", b: ", ", b: ", ",b:", ", t: x, b: ", " b: "]) + &quoted_argument(rng, depth),
+        "binom(" => text = text + rng.pick(&[",", ", ", ", ", " "]) + &quoted_argument(rng, depth),
+        _ => {}
+    }
+    text + rng.pick(&[")", ")", ")", ")", ")", ")", " )", "))", "", "\")"])
+}
+
+fn quoted_argument(rng: &mut Rng, depth: usize) -> String {
+    let mut text = String::new();
+    for _ in 0..rng.between(1, 3) {
+        text.push_str(&match rng.below(16) {
+            0..=8 => label(rng),
+            9 if depth > 0 => quoted_call(rng, depth - 1),
+            10 if depth > 0 => format!("({})", quoted_argument(rng, depth - 1)),
+            11 => rng.pick(&["\"", "(", ")", "[", "]", "{", "}", ",", "\\", "\\,", "\\\""]).to_string(),
+            12 => " ".to_string(),
+            13 => atom(rng),
+            _ => letter(rng),
+        });
+    }
+    text
+}
+
+/// Quoted text, some of it without its first or last quote.
+pub fn label(rng: &mut Rng) -> String {
+    const PARTS: [&str; 24] = [
+        ")", ")", ")", ")", ")", "(", "(", "(", "(", "()", ")(", ",", ",", "[", "]", "{", "}", " ", "\\", "\\/", "a", "b", "x",
+        "b:",
+    ];
+    let mut text: String = (0..rng.between(1, 5)).map(|_| rng.pick(&PARTS)).collect();
+    if rng.once_in(12) {
+        text.push_str(rng.pick(&CALLS));
+    }
+    match rng.below(16) {
+        0 => format!("\"{text}"),
+        1 => format!("{text}\""),
+        2 => format!("\"{text}\\\""),
+        _ => format!("\"{text}\""),
+    }
+}
+
 /// Some small damage: a piece cut out, doubled, moved in, or the end cut off.
 pub fn mutate(rng: &mut Rng, text: &str) -> String {
     let mut symbols: Vec<char> = text.chars().collect();

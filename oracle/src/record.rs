@@ -9,7 +9,7 @@ use super::table::record_bytes;
 use super::{lengths, tables, traps};
 
 /// How many cases of each generated family, and how many bytes their formulas may have.
-const SHARES: [(&str, usize, usize); 15] = [
+const SHARES: [(&str, usize, usize); 16] = [
     ("names", 400, 100),
     ("expressions", 900, 110),
     ("soup", 700, 90),
@@ -25,6 +25,7 @@ const SHARES: [(&str, usize, usize); 15] = [
     ("buffers", 900, 90),
     ("equal lengths", 300, 110),
     ("enclosed", 400, 110),
+    ("quoted", 400, 110),
 ];
 
 struct Recorder {
@@ -171,6 +172,9 @@ fn limits(recorder: &mut Recorder) {
     }
     for (i, formula) in lengths::typed_blocks().into_iter().enumerate() {
         recorder.add("enclosed", roomy(&formula, &[], i % 3 != 2));
+    }
+    for (i, formula) in lengths::many_quotes().into_iter().enumerate() {
+        recorder.add("quoted", roomy(&formula, &[], i % 3 != 2));
     }
     for core in ["a/a", "a", "a/abs(b \\/ c)"] {
         for way in 0..lengths::WAYS {

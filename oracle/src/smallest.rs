@@ -81,7 +81,8 @@ fn number(formula: &str) -> u8 {
     let mut stages = Stages::new(STAGE_SYMBOLS);
     let converted = typst_to_latex(formula, &[], true, &mut stages);
     match stages.lost {
-        Some(_) => 6,
-        None => converted.err().map_or(0, |trouble| trouble.number),
+        // Where a parenthesis is passed over, the unchanged Rust has another text.
+        Some(_) if !stages.passed_over => 6,
+        _ => converted.err().map_or(0, |trouble| trouble.number),
     }
 }

@@ -1,9 +1,12 @@
 //! Functions of the Rust, each by itself, on lines of standard input: what the program `stage_lines` has to write. A line that
-//! begins with `#` is a heading, and begins the next section. The byte 01 stands for the solidus mark.
+//! begins with `#` is a heading, and begins the next section. The byte 01 stands for the solidus mark. The call rewritings
+//! and their searches are the test copy's (A8), the others are the Rust's own.
 
 use super::super as rust;
 use super::judge::{Stages, Trouble, STAGE_SYMBOLS};
+use super::veil::veiled;
 use super::{fractions, grammar, words};
+use crate::changed as copy;
 use std::io::BufRead;
 
 pub fn stages() -> bool {
@@ -22,14 +25,14 @@ pub fn stages() -> bool {
 
 fn answer(section: usize, s: &str) -> String {
     match section {
-        1 => rust::convert_op(s),
-        2 => rust::convert_cases(s),
-        3 => rust::convert_attach(s),
-        4 => rust::convert_bb(s),
-        5 => rust::convert_bold(s),
-        6 => rust::convert_binom(s),
-        7 => rust::convert_upright(s),
-        8 => rust::convert_floor_ceil_abs(s),
+        1 => copy::convert_op(s),
+        2 => copy::convert_cases(s),
+        3 => copy::convert_attach(s),
+        4 => copy::convert_bb(s),
+        5 => copy::convert_bold(s),
+        6 => copy::convert_binom(s),
+        7 => copy::convert_upright(s),
+        8 => copy::convert_floor_ceil_abs(s),
         9 => rust::convert_text_quotes(s),
         10 => rust::convert_sqrt(s),
         11 => rust::convert_greek_capitals(s),
@@ -44,9 +47,10 @@ fn answer(section: usize, s: &str) -> String {
         20 => place(rust::find_matching_paren(s)),
         21 => place(rust::find_matching_brace(s)),
         22 => place(rust::matching_delimiter(s, 0, '(', ')')),
-        23 => place(rust::find_comma_in_args(s)),
+        23 => place(copy::find_comma_in_args(s)),
         24 => place(rust::find_unescaped_comma(s)),
-        25 => rust::split_top_level_commas(s)[0].len().to_string(),
+        25 => copy::split_top_level_commas(&veiled(s))[0].len().to_string(),
+        26 => place(copy::find_matching_paren(s)),
         _ => grammar::parse(s).map_or("no".into(), |sum| sum.atoms().to_string()),
     }
 }

@@ -18,6 +18,7 @@ use borrow.Author.Tests.{lt-ltb, le-ltb}
 use Rattle.spec.specs.Pipeline.{leastWork}
 use Rattle.text_search.specs.Half.{halfWork}
 use Rattle.spec.specs.Result.{mostSymbols}
+use Rattle.spec.specs.Closing.{overQuotes}
 use Rattle.spec.specs.Calls.{spliced, latexUnderset, attachOnce, attachTimes, convertAttach}
 use Rattle.spec.specs.Symbols.{bytes, _andThen_, find}
 use Rattle.spec.specs.Laws.Symbols.{find-starts}
@@ -148,7 +149,7 @@ module _ {w : List ℕ} {at n : ℕ} (half : Halved w at n) {r : Found} (finds :
     pub name-here : i < n
     name-here = name-within (bytes "attach(") w at n finds (halved-regions half .source) e
 
-    module _ {q : Found} (called : Called (bytes "attach(") (part (at + i) (at + n - (at + i)) w) q) where
+    module _ {q : Found} (called : Called overQuotes (bytes "attach(") (part (at + i) (at + n - (at + i)) w) q) where
       pub turned-unclosed : q ≡ Found.Nothing → Turned w w at n Done
       unfolding attachOnce
       turned-unclosed f = unturned (rw (finds-at found e, first-unclosed (part at n w) i (finds-at found e) (finds-within found e) (call-from w at n i called) f))

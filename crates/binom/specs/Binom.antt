@@ -1,20 +1,22 @@
 -- Binomials: what is written for one, and the turns of the loop that rewrites. Assumes nothing.
 --     parted     what is written for what stands inside, which a comma parts
 use mathlib.Core.Path.{_≡_, sym, ap, ap₂, _∙_, subst}
+use mathlib.Core.Bool.{false}
 use mathlib.Core.List.{List, [], _∷_, _++_}
 use mathlib.Core.Option.{some}
-use Prim.Native.Nat.{ℕ, _+_, _-_, _≤_, _<_}
+use Prim.Native.Nat.{ℕ, suc, _+_, _-_, _≤_, _<_}
 use native.Mathlib.Omega.{arith}
 use lib.ListN.{length, getD, take, drop, length-take, length-append}
-use lib.Seq.{drop-drop}
+use lib.Seq.{drop-drop, length-take-le}
 use Rattle.spec.specs.Symbols.{bytes, trim, inside}
 use Rattle.spec.specs.Sweep.{taken}
-use Rattle.spec.specs.Closing.{findCommaInArgs}
+use Rattle.spec.specs.Closing.{findCommaInArgs, overQuotes}
 use Rattle.spec.specs.Calls.{callAt, callLength, binom}
 use Rattle.text_symbols.specs.Parts.{part, whole-part, length-part, rest-of, sub-part}
 use Rattle.text_symbols.specs.Trim.{Narrowed, spanned}
 use Rattle.text_symbols.specs.declared.Span.{Span}
-use Rattle.text_search.specs.Search.{Closes, closes-at, closes-within, closes-nothing, inside-drop}
+use Rattle.text_search.specs.Search.{Closes, closes-at, closes-within, closes-nothing, inside-alike}
+use Rattle.spec.specs.Laws.Closing.{length-seen}
 use Rattle.text.specs.Writer.{Appended, Apart}
 use Rattle.text.specs.Sweep.{Sweeping, restFrom, symbols-read, symbols-apart, sweeping-more, sweeping-kept}
 use Rattle.text_search.specs.declared.Found.{Found}
@@ -59,7 +61,7 @@ module _
 -- ---- a turn of the loop: `call_at` has looked at the rest of the text
 module _
     {w₀ w : List ℕ} {from n to cap count₀ count i : ℕ} (sweeping : Sweeping binom w₀ w from n to cap count₀ count i)
-    (more : i < n) {r : Found} (called : Called (bytes "binom(") (restFrom from n i w) r)
+    (more : i < n) {r : Found} (called : Called overQuotes (bytes "binom(") (restFrom from n i w) r)
   where
     abbrev here : List ℕ
     here = drop i (part from n w₀)
@@ -77,26 +79,37 @@ module _
       inner-long : length inner ≡ k
       inner-long = let f = fits in let s = sweeping .regions .source in let l = sweeping .long in length-part (from + i + 6) k w (omega arith)
 
-      call-here : callAt (bytes "binom(") here ≡ some inner
+      call-here : callAt overQuotes (bytes "binom(") here ≡ some inner
       call-here =
           let f = fits in let m : from + (i + 6) ≡ from + i + 6 = omega arith in
           call-read sweeping more called ∙ ap (innerAt (bytes "binom(") here) e
           ∙ ap (λ s. some (take k s)) (drop-drop 6 i (part from n w₀))
           ∙ ap some (sym (symbols-read sweeping (i + 6) k (omega arith)) ∙ ap (λ j. part j k w) m)
 
-      module _ {q : Found} (answer : Closes (part (from + i + 6) (from + i + 6 + k - (from + i + 6)) w) q (findCommaInArgs (part (from + i + 6) (from + i + 6 + k - (from + i + 6)) w))) where
-        comma : Closes inner q (findCommaInArgs inner)
-        comma = subst (λ s. Closes s q (findCommaInArgs s)) (whole-part (from + i + 6) k w) answer
+      -- where a comma parts the arguments, as the search sees them
+      abbrev Parts : List ℕ → Found → Type 0
+      Parts s q = Closes (overQuotes s) q (findCommaInArgs (overQuotes s))
+
+      module _ {q : Found} (answer : Parts (part (from + i + 6) (from + i + 6 + k - (from + i + 6)) w) q) where
+        comma : Parts inner q
+        comma = subst (λ s. Parts s q) (whole-part (from + i + 6) k w) answer
+
+        seen-long : length (overQuotes inner) ≡ length inner
+        seen-long = length-seen false inner
 
         pub copied-unparted : {w′ : List ℕ} {count′ : ℕ} → q ≡ Nothing → Appended w w′ to cap count count′ (getD w (from + i) 0 ∷ []) → Sweeping binom w₀ w′ from n to cap count₀ count′ (i + 1)
         copied-unparted f a = sweeping-kept sweeping more (rw (call-here, closes-nothing comma f)) a
 
         module _ {j : ℕ} (f : q ≡ At j) where
           pub comma-within : j < k
-          comma-within = let l = closes-within comma f in let m = inner-long in omega arith
+          comma-within = let l = closes-within comma f in let m = inner-long in let v = seen-long in omega arith
 
           turn : binom (getD (0 ∷ part from n w₀) i 0) here ≡ taken (callLength (bytes "binom(") inner) (parted inner j)
-          turn = rw (call-here, closes-at comma f, inside-drop inner j (closes-within comma f))
+          turn =
+              let h = comma-within in let l = inner-long in
+              let first : length (take j inner) ≡ j = length-take-le j inner (omega arith) in
+              let second : suc (length (take j inner)) ≡ j + 1 = omega arith in
+              rw (call-here, closes-at comma f, inside-alike inner (overQuotes inner) seen-long j (omega arith), second)
 
           pub binom-written :
               {w′ : List ℕ} {count′ : ℕ} → Appended w w′ to cap count count′ (parted inner j) → count′ ≤ count + (k + 64)

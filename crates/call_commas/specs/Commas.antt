@@ -1,19 +1,27 @@
 -- The steps of the comma searches. Assumes nothing.
 --     balanced     brackets opened and closed, after a symbol
-use mathlib.Core.Path.{_≡_, refl, sym, ap, _∙_}
+--     CommaMet     what the search for a comma answers, of a text s that it sees as v
+use mathlib.Core.Path.{_≡_, refl, sym, ap, _∙_, subst}
 use mathlib.Core.Bool.{Bool, true, false, not, _&&_, _||_, false≢true}
-use borrow.Author.Tests.{eqb-true}
+use borrow.Author.Tests.{eqb-true, ltb-true, ne-eqb}
+use mathlib.Core.Logic.{_⊎_, inl, inr, ⊎-elim}
 use mathlib.Core.List.{List, _∷_}
 use mathlib.Core.Option.{none, some}
 use Prim.Native.Nat.{ℕ, _+_, _≤_}
 use Prim.Native.Char.{code}
 use native.Mathlib.Numerals.{add-one}
 use native.Mathlib.Omega.{arith}
-use lib.Dec.{eqb}
+use lib.Dec.{eqb, ltb}
 use lib.ListN.{length, drop, drop-of-length-le}
 use Rattle.spec.specs.Symbols.{is}
-use Rattle.spec.specs.Closing.{Side, opens, closes, neither, anySide, commaBehind, unescapedBehind}
+use Rattle.spec.specs.Laws.Booleans.{and-parts}
+use Rattle.spec.specs.Closing.{Side, opens, closes, neither, anySide, commaBehind, findCommaInArgs, unescapedBehind, seenAs}
+use Rattle.text_search.specs.Search.{Closes}
+use Rattle.text_search.specs.declared.Found.{Found}
+use Rattle.call_quotes.specs.Quotes.{Sees}
 use Rattle.call_commas.specs.declared.Balance.{Balance}
+use Rattle.call_commas.specs.declared.Comma.{Comma}
+use Rattle.call_commas.specs.declared.Comma.the-variants.{At, Nothing}
 
 abbrev pub opener : ℕ → Bool
 opener x = is "(" x || (is "[" x || is "{" x)
@@ -80,3 +88,64 @@ comma-end o c s i h = ap (commaBehind o c) (drop-of-length-le s h)
 pub unescaped-end : (before : ℕ) (s : List ℕ) (i : ℕ) → length s ≤ i → unescapedBehind before (drop i s) ≡ none
 unfolding unescapedBehind
 unescaped-end before s i h = ap (unescapedBehind before) (drop-of-length-le s h)
+
+-- ---- the answer
+abbrev pub placeOf : Comma → Found
+placeOf (At k quotes) = Found.At k
+placeOf Nothing = Found.Nothing
+
+-- what the search sees behind the comma
+abbrev pub SeesBehind : List ℕ → List ℕ → Comma → Type 0
+SeesBehind v s (At k quotes) = Sees v s (k + 1) (quotes .quoted)
+SeesBehind v s Nothing = Unit {0}
+
+pub record CommaMet (v s : List ℕ) (r : Comma) : Type 0 where
+  pub closes : Closes v (placeOf r) (findCommaInArgs v)
+  pub behind : SeesBehind v s r
+
+pub comma-met : {v s : List ℕ} {r : Comma} {f : Found} → CommaMet v s r → placeOf r ≡ f → Closes v f (findCommaInArgs v)
+comma-met {v} met e = subst (λ f. Closes v f (findCommaInArgs v)) e (met .closes)
+
+-- ---- what is seen
+-- a comma is seen as it is, quoted or not
+pub comma-seen : (quoted : Bool) (x : ℕ) → is "," (seenAs quoted x) ≡ is "," x
+comma-seen false x = refl
+comma-seen true x = go (is "(" x) (is ")" x) refl refl
+  where
+    go : (a b : Bool) → is "(" x ≡ a → is ")" x ≡ b → is "," (elim (a || b) as (λ _. ℕ) [ true ↦ code "\"" | false ↦ x ]) ≡ is "," x
+    go true b e f = ap (is ",") (sym (eqb-true x (code "(") e))
+    go false true e f = ap (is ",") (sym (eqb-true x (code ")") f))
+    go false false e f = refl
+
+-- a quote counts nothing
+pub quote-past : (o c : ℕ) (quoted : Bool) (x : ℕ) (s : List ℕ) → is "\"" x ≡ true → commaBehind o c (seenAs quoted x ∷ s) ≡ commaBehind o c s
+unfolding commaBehind
+quote-past o c quoted x s e = ap (λ y. commaBehind o c (seenAs quoted y ∷ s)) (eqb-true x (code "\"") e) ∙ go quoted
+  where
+    go : (quoted : Bool) → commaBehind o c (seenAs quoted (code "\"") ∷ s) ≡ commaBehind o c s
+    go true = refl
+    go false = refl
+
+-- small letters, and what else stands between the brackets `]` and `{`, count nothing either
+module _ (x : ℕ) (between : ltb (code "]") x && ltb x (code "{") ≡ true) where
+  apart : (k : ℕ) → (k ≤ code "]") ⊎ (code "{" ≤ k) → eqb x k ≡ false
+  apart k far =
+      let both = and-parts (ltb (code "]") x) (ltb x (code "{")) between in
+      let low = ltb-true (code "]") x (both .0) in let high = ltb-true x (code "{") (both .1) in
+      ne-eqb x k (λ e. ⊎-elim (λ (h : k ≤ code "]"). omega arith) (λ (h : code "{" ≤ k). omega arith) far)
+
+  pub letter-no-quote : is "\"" x ≡ false
+  letter-no-quote = apart (code "\"") (inl (omega arith))
+
+  side-letter : anySide x ≡ neither
+  side-letter =
+      rw (apart (code "(") (inl (omega arith)), apart (code "[") (inl (omega arith)), apart (code "{") (inr (omega arith)))
+      (rw (apart (code ")") (inl (omega arith)), apart (code "]") (inl (omega arith)), apart (code "}") (inr (omega arith))) refl)
+
+  pub letter-past : (o c : ℕ) (quoted : Bool) (s : List ℕ) → commaBehind o c (seenAs quoted x ∷ s) ≡ commaBehind o c s
+  unfolding commaBehind
+  letter-past o c quoted s = ap (λ y. commaBehind o c (y ∷ s)) (seen quoted) ∙ rw (side-letter, apart (code ",") (inl (omega arith)), commaBehind)
+    where
+      seen : (quoted : Bool) → seenAs quoted x ≡ x
+      seen false = refl
+      seen true = rw (apart (code "(") (inl (omega arith)), apart (code ")") (inl (omega arith)), seenAs)

@@ -1,6 +1,6 @@
 -- The parts that top-level commas make of a text, one after another. Assumes nothing.
 --     Splits s start r    the first part of the text from `start` on ends at r, and the others are those of the text behind
-use mathlib.Core.Path.{_≡_, refl, sym, ap, ap₂, _∙_}
+use mathlib.Core.Path.{_≡_, refl, sym, ap, ap₂, _∙_, subst}
 use mathlib.Core.Bool.{Bool, true, false, cond, _&&_, false≢true}
 use mathlib.Core.List.{List, [], _∷_}
 use mathlib.Core.Option.{Option, none, some}
@@ -11,11 +11,16 @@ use lib.ListN.{length, take, drop, length-drop}
 use lib.Seq.{drop-drop}
 use borrow.Author.Tests.{lt-ltb, le-ltb, eqb-true}
 use Rattle.spec.specs.Symbols.{is, inside}
-use Rattle.spec.specs.Closing.{Side, opens, closes, neither, anySide, commaBehind, findCommaInArgs, pushed, splitFrom, splitTopLevelCommas}
+use Rattle.spec.specs.Closing.{Side, opens, closes, neither, anySide, commaBehind, findCommaInArgs, pushed, splitFrom, splitTopLevelCommas, seenFrom, overQuotes}
 use Rattle.text_symbols.specs.Parts.{part, rest-of}
 use Rattle.text_search.specs.Search.{Closes, closes-at, closes-within, closes-nothing, inside-drop}
 use Rattle.text_search.specs.declared.Found.{Found}
-use Rattle.text_search.specs.declared.Found.the-variants.{At, Nothing}
+use Rattle.text_search.specs.declared.Found.the-variants as Search
+use Rattle.call_quotes.specs.Quotes.{Sees, sees-later, sees-end}
+use Rattle.call_quotes.specs.declared.Quotes.{Quotes}
+use Rattle.call_commas.specs.Commas.{CommaMet, SeesBehind, placeOf, comma-met}
+use Rattle.call_commas.specs.declared.Comma.{Comma}
+use Rattle.call_commas.specs.declared.Comma.the-variants.{At, Nothing}
 
 -- the parts behind a comma at r, and none where the text ends there
 abbrev pub partsBehind : List ℕ → ℕ → List (List ℕ)
@@ -92,7 +97,7 @@ split-parts o c (x ∷ s) = go (anySide x) refl (split-parts (suc o) c s) (split
 
 -- ---- what the search in the rest of a slice says
 module _ {s : List ℕ} {start : ℕ} {r : Found} (within : start ≤ length s) (found : Closes (drop start s) r (findCommaInArgs (drop start s))) where
-  pub splits-at : (k : ℕ) → r ≡ At k → Splits s start (start + k)
+  splits-at : (k : ℕ) → r ≡ Search.At k → Splits s start (start + k)
   splits-at k e =
       let l = closes-within found e in let d = length-drop start s in
       let n : start + k - start ≡ k = omega arith in
@@ -108,7 +113,7 @@ module _ {s : List ℕ} {start : ℕ} {r : Found} (within : start ≤ length s) 
             (ap splitTopLevelCommas (drop-drop (k + 1) start s ∙ ap (λ i. drop i s) m) ∙ rw (lt-ltb (start + k) (length s) (omega arith)));
       }
 
-  pub splits-end : r ≡ Nothing → Splits s start (length s)
+  splits-end : r ≡ Search.Nothing → Splits s start (length s)
   splits-end e =
       record {
         later = within;
@@ -118,3 +123,23 @@ module _ {s : List ℕ} {start : ℕ} {r : Found} (within : start ≤ length s) 
             ∙ ap (partsOf (drop start s)) (closes-nothing found e)
             ∙ ap₂ (λ p q. p ∷ q) (sym (rest-of start s)) (rw (le-ltb (length s) (length s) (omega arith)));
       }
+
+-- the same of a text s that is seen over quotes
+module _
+    {s : List ℕ} {start : ℕ} {quoted : Bool} {r : Comma} (within : start ≤ length s) (sees : Sees (overQuotes s) s start quoted)
+    (met : CommaMet (seenFrom quoted (part start (length s - start) s)) (part start (length s - start) s) r)
+  where
+    long : length (overQuotes s) ≡ length s
+    long = sees .as-long
+
+    met-onward : CommaMet (drop start (overQuotes s)) (drop start s) r
+    met-onward = subst (λ v. CommaMet v (drop start s) r) (sym (sees .onward)) (subst (λ t. CommaMet (seenFrom quoted t) t r) (rest-of start s) met)
+
+    pub seen-splits-at : {k : ℕ} {quotes : Quotes} → r ≡ At k quotes → Splits (overQuotes s) start (start + k) × Sees (overQuotes s) s (start + k + 1) (quotes .quoted)
+    seen-splits-at {k} {quotes} e =
+        let behind : Sees (drop start (overQuotes s)) (drop start s) (k + 1) (quotes .quoted) = subst (SeesBehind (drop start (overQuotes s)) (drop start s)) e (met-onward .behind) in
+        let next : start + (k + 1) ≡ start + k + 1 = omega arith in
+        (splits-at (let l = long in omega arith) (comma-met met-onward (ap placeOf e)) k refl, subst (λ i. Sees (overQuotes s) s i (quotes .quoted)) next (sees-later start long behind))
+
+    pub seen-splits-end : r ≡ Nothing → {quoted′ : Bool} → Splits (overQuotes s) start (length s) × Sees (overQuotes s) s (length s + 1) quoted′
+    seen-splits-end e = (subst (Splits (overQuotes s) start) long (splits-end (let l = long in omega arith) (comma-met met-onward (ap placeOf e)) refl), sees-end (length s + 1) long (omega arith))

@@ -14,8 +14,9 @@ use Rattle.spec.specs.Symbols.{_andThen_, inside, starts, trim, trimQuotes}
 use Rattle.spec.specs.Sweep.{Rule}
 use Rattle.spec.specs.Closing.{findMatchingParen}
 use Rattle.spec.specs.Calls.{callAt, rewritten, calling}
+use Rattle.spec.specs.Laws.Absent.{no-call}
 use Rattle.text_symbols.specs.Parts.{part, length-part}
-use Rattle.text_search.specs.Search.{Closes, inside-drop}
+use Rattle.text_search.specs.Search.{Closes, inside-alike}
 use Rattle.text.specs.Writer.{Appended}
 use Rattle.text.specs.Sweep.{Sweeping, restFrom, source-read, rest-read, symbols-read, sweeping-more, sweeping-kept}
 use Rattle.text_symbols.specs.Trim.{Narrowed, spanned}
@@ -45,33 +46,35 @@ abbrev pub spent : List ℕ → Found → ℕ
 spent name (At k) = length name + k + 1
 spent name Nothing = 0
 
-pub record Called (name s : List ℕ) (r : Found) : Type 0 where
+pub record Called (seen : List ℕ → List ℕ) (name s : List ℕ) (r : Found) : Type 0 where
   pub within : spent name r ≤ length s
-  pub inner : innerAt name s r ≡ callAt name s
+  pub inner : innerAt name s r ≡ callAt seen name s
 
-pub called-not : (name s : List ℕ) → starts name s ≡ false → Called name s Nothing
-unfolding callAt
-called-not name s e = record { within = omega arith; inner = rw (e, callAt) }
+module _ (seen : List ℕ → List ℕ) (name s : List ℕ) where
+  pub called-not : starts name s ≡ false → Called seen name s Nothing
+  called-not e = record { within = omega arith; inner = sym (no-call seen name s e) }
 
-pub called-by : (name s : List ℕ) (r : Found) → starts name s ≡ true → Closes (drop (length name) s) r (findMatchingParen (drop (length name) s)) → Called name s r
-unfolding callAt
-called-by name s (At k) e f =
-    let d = drop (length name) s in
-    let w = f .within in let l = length-drop (length name) s in
-    record {
-      within = omega arith;
-      inner = rw (e, callAt) (ap some (sym (inside-drop d k (omega arith))) ∙ ap (λ o. o andThen λ behind. some (inside d behind)) (f .left));
-    }
-called-by name s Nothing e f = record { within = omega arith; inner = rw (e, callAt) (ap (λ o. o andThen λ behind. some (inside (drop (length name) s) behind)) (f .left)) }
+  abbrev rest : List ℕ
+  rest = drop (length name) s
+
+  pub called-by : (r : Found) → starts name s ≡ true → length (seen rest) ≡ length rest → Closes (seen rest) r (findMatchingParen (seen rest)) → Called seen name s r
+  unfolding callAt
+  called-by (At k) e long f =
+      let w = f .within in let l = length-drop (length name) s in
+      record {
+        within = omega arith;
+        inner = rw (e, callAt) (ap some (sym (inside-alike rest (seen rest) long k (omega arith))) ∙ ap (λ o. o andThen λ behind. some (inside rest behind)) (f .left));
+      }
+  called-by Nothing e long f = record { within = omega arith; inner = rw (e, callAt) (ap (λ o. o andThen λ behind. some (inside rest behind)) (f .left)) }
 
 -- ---- a turn of a loop: `call_at` has looked at the rest of the text
 module _
-    {name : List ℕ} {rule : Rule} {w₀ w : List ℕ} {from n to cap count₀ count i : ℕ}
+    {seen : List ℕ → List ℕ} {name : List ℕ} {rule : Rule} {w₀ w : List ℕ} {from n to cap count₀ count i : ℕ}
     (sweeping : Sweeping rule w₀ w from n to cap count₀ count i) (more : i < n)
-    {r : Found} (called : Called name (restFrom from n i w) r)
+    {r : Found} (called : Called seen name (restFrom from n i w) r)
   where
-    pub call-read : callAt name (drop i (part from n w₀)) ≡ innerAt name (drop i (part from n w₀)) r
-    call-read = ap (callAt name) (sym (rest-read sweeping)) ∙ sym (called .inner) ∙ ap (λ s. innerAt name s r) (rest-read sweeping)
+    pub call-read : callAt seen name (drop i (part from n w₀)) ≡ innerAt name (drop i (part from n w₀)) r
+    call-read = ap (callAt seen name) (sym (rest-read sweeping)) ∙ sym (called .inner) ∙ ap (λ s. innerAt name s r) (rest-read sweeping)
 
     -- the call ends within the n symbols
     pub call-fits : {k : ℕ} → r ≡ At k → i + length name + k + 1 ≤ n
@@ -82,18 +85,18 @@ module _
 
 -- the turn of a loop that rewrites calls
 module _
-    {name : List ℕ} (write : List ℕ → List ℕ) {w₀ w : List ℕ} {from n to cap count₀ count i : ℕ}
-    (sweeping : Sweeping (calling name write) w₀ w from n to cap count₀ count i) (more : i < n)
-    {r : Found} (called : Called name (restFrom from n i w) r)
+    {seen : List ℕ → List ℕ} {name : List ℕ} (write : List ℕ → List ℕ) {w₀ w : List ℕ} {from n to cap count₀ count i : ℕ}
+    (sweeping : Sweeping (calling seen name write) w₀ w from n to cap count₀ count i) (more : i < n)
+    {r : Found} (called : Called seen name (restFrom from n i w) r)
   where
-    turn-found : calling name write (getD (0 ∷ part from n w₀) i 0) (drop i (part from n w₀)) ≡ rewritten name write (drop i (part from n w₀)) (innerAt name (drop i (part from n w₀)) r)
+    turn-found : calling seen name write (getD (0 ∷ part from n w₀) i 0) (drop i (part from n w₀)) ≡ rewritten name write (drop i (part from n w₀)) (innerAt name (drop i (part from n w₀)) r)
     turn-found = ap (rewritten name write (drop i (part from n w₀))) (call-read sweeping more called)
 
     module _ {w′ : List ℕ} {count′ : ℕ} where
       pub called-here :
           {k : ℕ} {bs : List ℕ} → r ≡ At k → bs ≡ write (take k (drop (i + length name) (part from n w₀))) → length bs ≤ 1024 * (1 + k)
           → Appended w w′ to cap count count′ bs
-          → Sweeping (calling name write) w₀ w′ from n to cap count₀ count′ (i + length name + k + 1)
+          → Sweeping (calling seen name write) w₀ w′ from n to cap count₀ count′ (i + length name + k + 1)
       called-here {k} {bs} e same few a =
           let s = drop i (part from n w₀) in
           let fits = call-fits sweeping more called e in
@@ -103,11 +106,11 @@ module _
           let fresh : bs ≡ write (take k (drop (length name) s)) = same ∙ ap write (sym inner) in
           let next : i + 1 + (length name + length (take k (drop (length name) s))) ≡ i + length name + k + 1 = omega arith in
           let count-few = ap length fresh in
-          subst (λ j. Sweeping (calling name write) w₀ w′ from n to cap count₀ count′ j) next
+          subst (λ j. Sweeping (calling seen name write) w₀ w′ from n to cap count₀ count′ j) next
           (sweeping-more sweeping more (rewritten name write s (some (take k (drop (length name) s))))
           (turn-found ∙ ap (λ q. rewritten name write s (innerAt name s q)) e) (subst (λ b. Appended w w′ to cap count count′ b) fresh a) (omega arith))
 
-      pub copied-here : r ≡ Nothing → Appended w w′ to cap count count′ (getD w (from + i) 0 ∷ []) → Sweeping (calling name write) w₀ w′ from n to cap count₀ count′ (i + 1)
+      pub copied-here : r ≡ Nothing → Appended w w′ to cap count count′ (getD w (from + i) 0 ∷ []) → Sweeping (calling seen name write) w₀ w′ from n to cap count₀ count′ (i + 1)
       copied-here e a = sweeping-kept sweeping more (turn-found ∙ ap (λ q. rewritten name write (drop i (part from n w₀)) (innerAt name (drop i (part from n w₀)) q)) e) a
 
 -- what `argument_of` has found in the text is what the definition writes of the k symbols inside the call

@@ -10,6 +10,7 @@ ghost use mathlib.Core.List.{_++_};
 ghost use lib.ListN.{length};
 ghost use Rattle.text_search.specs.Half.{halfWork};
 ghost use Rattle.spec.specs.Result.{stage, mostSymbols};
+ghost use Rattle.spec.specs.Closing.{overQuotes};
 ghost use Rattle.spec.specs.Calls.{convertCalls};
 ghost use Rattle.text_symbols.specs.Parts.{part};
 ghost use Rattle.text_symbols.specs.Trim.{Within, Narrowed, spanned};
@@ -20,11 +21,11 @@ ghost use Rattle.call_rewriting.specs.Delimiters.{Called, CallTextsFit, 
 // The length of what stands inside the call that the text begins with.
 pub fn call_at(s: &[u8], name: &[u8]) -> Found
     requires { ⌜ length (now s) ≤ halfWork ⌝ }
-    ensures { λ r. ⌜ Called (now (name .entry)) (now (s .entry)) r ⌝ }
+    ensures { λ r. ⌜ Called overQuotes (now (name .entry)) (now (s .entry)) r ⌝ }
 {
     if text_search::starts_with(s, name) {
         let open = name.len();
-        return text_closing::find_matching_paren(&s[open..]);
+        return call_quotes::find_call_end(&s[open..]);
     }
     Found::Nothing
 }

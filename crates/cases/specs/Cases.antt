@@ -14,13 +14,16 @@ use lib.ListN.{length, take, drop, length-append}
 use lib.Seq.{drop-drop, take-take}
 use borrow.Author.Tests.{lt-ltb, le-ltb}
 use Rattle.spec.specs.Symbols.{bytes, trim, find}
-use Rattle.spec.specs.Closing.{splitTopLevelCommas}
+use Rattle.spec.specs.Closing.{splitTopLevelCommas, overQuotes, cutAlike}
 use Rattle.spec.specs.Calls.{nonblank, joined, callAt, latexCases, casesOnce, convertCases}
 use Rattle.text_symbols.specs.Parts.{part, whole-part, sub-part, rest-part, length-part}
 use Rattle.text_symbols.specs.Trim.{Narrowed}
 use Rattle.text_search.specs.Search.{until-drop}
 use Rattle.text.specs.Writer.{Regions, Appended, appended-none, appended-more, appended-part}
 use Rattle.text_symbols.specs.declared.Span.{Span}
+use Rattle.spec.specs.Laws.Closing.{length-seen}
+use Rattle.call_quotes.specs.Quotes.{Sees}
+use Rattle.call_quotes.specs.declared.Quotes.{Quotes}
 use Rattle.call_commas.specs.Split.{Splits, partsBehind}
 use Rattle.call_rewriting.specs.First.{Firstly}
 use Rattle.cases.specs.declared.Branch.{Branch}
@@ -31,11 +34,15 @@ separator false = []
 separator true = bytes " \\\\ "
 
 abbrev pub branches : List ℕ → List ℕ
-branches s = joined (bytes " \\\\ ") (nonblank (map trim (splitTopLevelCommas s)))
+branches s = joined (bytes " \\\\ ") (nonblank (map trim (cutAlike (splitTopLevelCommas (overQuotes s)) s)))
 
--- the parts of s from `start` on, none where that is past its end
+-- the parts of v from `start` on, none where that is past its end
+abbrev partsAlike : List ℕ → ℕ → List (List ℕ)
+partsAlike v start = cond (ltb (length v) start) [] (splitTopLevelCommas (drop start v))
+
+-- the same of s, which is cut where it is seen to end
 abbrev pub partsFrom : List ℕ → ℕ → List (List ℕ)
-partsFrom s start = cond (ltb (length s) start) [] (splitTopLevelCommas (drop start s))
+partsFrom s start = cutAlike (partsAlike (overQuotes s) start) (drop start s)
 
 pub record Branched (s : List ℕ) (start : ℕ) (r : Branch) : Type 0 where
   pub low : start ≤ r .start
@@ -43,29 +50,42 @@ pub record Branched (s : List ℕ) (start : ℕ) (r : Branch) : Type 0 where
   pub high : r .end < r .next
   pub within : r .next ≤ length s + 1
   pub parts : map trim (partsFrom s start) ≡ part (r .start) (r .end - r .start) s ∷ map trim (partsFrom s (r .next))
+  pub sees : Sees (overQuotes s) s (r .next) (r .quotes .quoted)
 
-parts-behind : (s : List ℕ) (r : ℕ) → partsBehind s r ≡ partsFrom s (r + 1)
+parts-behind : (s : List ℕ) (r : ℕ) → partsBehind s r ≡ partsAlike s (r + 1)
 parts-behind s r = go (decLt r (length s))
   where
-    go : Dec (r < length s) → partsBehind s r ≡ partsFrom s (r + 1)
+    go : Dec (r < length s) → partsBehind s r ≡ partsAlike s (r + 1)
     go (yes h) = rw (lt-ltb r (length s) h, le-ltb (length s) (r + 1) (omega arith))
     go (no h) = let l : length s ≤ r = omega arith in rw (le-ltb r (length s) l, lt-ltb (length s) (r + 1) (omega arith))
 
+-- the part that begins at `start`
+parts-first : (s : List ℕ) {start comma : ℕ} → start ≤ length s → Splits (overQuotes s) start comma → partsFrom s start ≡ part start (comma - start) s ∷ partsFrom s (comma + 1)
+parts-first s {start} {comma} h splits =
+    let v = overQuotes s in
+    let seen = length-seen false s in let w = splits .within in let l = splits .later in
+    let long : length (part start (comma - start) v) ≡ comma - start = length-part start (comma - start) v (omega arith) in
+    let next : start + suc (comma - start) ≡ comma + 1 = omega arith in
+    ap (λ b. cutAlike (cond b [] (splitTopLevelCommas (drop start v))) (drop start s)) (le-ltb (length v) start (omega arith))
+    ∙ ap (λ ps. cutAlike ps (drop start s)) (splits .parts)
+    ∙ ap (λ k. take k (drop start s) ∷ cutAlike (partsBehind v comma) (drop (suc k) (drop start s))) long
+    ∙ ap₂ (λ ps t. part start (comma - start) s ∷ cutAlike ps t) (parts-behind v comma) (drop-drop (suc (comma - start)) start s ∙ ap (λ k. drop k s) next)
+
 pub branched :
-    {s : List ℕ} {start comma : ℕ} {p : Span} → start ≤ length s → Splits s start comma
+    {s : List ℕ} {start comma : ℕ} {p : Span} {quotes : Quotes} → start ≤ length s → Splits (overQuotes s) start comma
+    → Sees (overQuotes s) s (comma + 1) (quotes .quoted)
     → Narrowed s (record { start = start; end = comma }) p (trim (part start (comma - start) s))
-    → Branched s start (record { start = p .start; end = p .end; next = comma + 1 })
-branched {s} {start} {comma} {p} h splits narrowed =
+    → Branched s start (record { start = p .start; end = p .end; next = comma + 1; quotes = quotes })
+branched {s} {start} {comma} {p} {quotes} h splits sees narrowed =
+    let seen = length-seen false s in
     let w = splits .within in let f = narrowed .from in let o = narrowed .order in let t = narrowed .to in
     record {
       low = f;
       order = o;
       high = omega arith;
       within = omega arith;
-      parts =
-          ap (λ b. map trim (cond b [] (splitTopLevelCommas (drop start s)))) (le-ltb (length s) start h)
-          ∙ ap (map trim) (splits .parts)
-          ∙ ap₂ (λ x y. x ∷ y) (sym (narrowed .text)) (ap (map trim) (parts-behind s comma));
+      parts = ap (map trim) (parts-first s h splits) ∙ ap (λ b. b ∷ map trim (partsFrom s (comma + 1))) (sym (narrowed .text));
+      sees = sees;
     }
 
 -- ---- the loop
@@ -102,7 +122,8 @@ branching-none s w to cap count =
     record {
       out = [];
       appended = appended-none w to cap count;
-      same-as-whole = ap (λ b. joined (bytes " \\\\ ") (nonblank (map trim (cond b [] (splitTopLevelCommas s))))) (le-ltb (length s) 0 (omega arith));
+      same-as-whole =
+          ap (λ b. joined (bytes " \\\\ ") (nonblank (map trim (cutAlike (cond b [] (splitTopLevelCommas (overQuotes s))) s)))) (le-ltb (length (overQuotes s)) 0 (omega arith));
       bounded = omega arith;
     }
 
@@ -116,7 +137,10 @@ branching-all {s} {w₀} {w} {to} {cap} {count₀} {count} {later} {start} b h =
     none-left true = refl
 
     nothing : (later : Bool) → added later (nonblank (map trim (partsFrom s start))) ≡ []
-    nothing later = ap (λ t. added later (nonblank (map trim (cond t [] (splitTopLevelCommas (drop start s)))))) (lt-ltb (length s) start h) ∙ none-left later
+    nothing later =
+        let seen = length-seen false s in
+        ap (λ t. added later (nonblank (map trim (cutAlike (cond t [] (splitTopLevelCommas (drop start (overQuotes s)))) (drop start s))))) (lt-ltb (length (overQuotes s)) start (omega arith))
+        ∙ none-left later
 
 module _
     {s w₀ w : List ℕ} {to cap count₀ count : ℕ} {later : Bool} {start : ℕ} (b : Branching s w₀ w to cap count₀ count later start) {r : Branch} (at : Branched s start r)
@@ -167,7 +191,7 @@ module _ {w₀ w out : List ℕ} {to cap count₀ count from n : ℕ} (a : Appen
   branch-read i m h = sub-part from n i m w h ∙ ap (λ s. take m (drop i s)) (appended-part a from n (regions .apart))
 
 -- ---- the call in its text
-pub cases-unclosed : (s at : List ℕ) → find (bytes "cases(") s ≡ some at → callAt (bytes "cases(") at ≡ none → convertCases s ≡ s
+pub cases-unclosed : (s at : List ℕ) → find (bytes "cases(") s ≡ some at → callAt overQuotes (bytes "cases(") at ≡ none → convertCases s ≡ s
 unfolding convertCases casesOnce
 cases-unclosed s at e f = rw (e, f)
 

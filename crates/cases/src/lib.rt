@@ -1,5 +1,6 @@
 // `cases(..)` becomes LaTeX's environment of that name: its first occurrence only, and only if that one is closed. Its branches are
 // parted by commas at the top level; blank ones are dropped.
+use call_quotes::Quotes;
 use text::Due;
 use text::Progress;
 use text_search::Found;
@@ -9,30 +10,37 @@ ghost use Prim.Native.Nat.{_+_, _-_, _*_, _≤_};
 ghost use mathlib.Core.List.{_++_};
 ghost use lib.ListN.{length};
 ghost use Rattle.spec.specs.Result.{stage, mostSymbols};
+ghost use Rattle.spec.specs.Closing.{overQuotes};
 ghost use Rattle.spec.specs.Calls.{latexCases, convertCases};
 ghost use Rattle.text_symbols.specs.Parts.{part};
 ghost use Rattle.text.specs.Writer.{Room, Appended, Apart, Regions};
 ghost use Rattle.text.specs.Stage.{Ready, Staged};
+ghost use Rattle.call_quotes.specs.Quotes.{Sees};
 ghost use Rattle.cases.specs.Cases.{Branched, separator, branches};
 
-// A branch, trimmed, from `start` to `end`, and the place where the next one begins.
+// A branch, trimmed, from `start` to `end`; the place where the next one begins, and whether it begins between quotes.
 pub struct Branch {
     pub start: usize,
     pub end: usize,
     pub next: usize,
+    pub quotes: Quotes,
 }
 
 // The branch of `s` that begins at `start`.
-fn branch_at(s: &[u8], start: usize) -> Branch
+fn branch_at(s: &[u8], start: usize, quotes: Quotes) -> Branch
     requires { ⌜ (start ≤ length (now s)) × (length (now s) ≤ mostSymbols) ⌝ }
+    requires { ⌜ Sees (overQuotes (now s)) (now s) start (quotes .quoted) ⌝ }
     ensures { λ r. ⌜ Branched (now (s .entry)) start r ⌝ }
 {
-    let comma = call_commas::split_top_level_commas(s, start);
-    let span = text_symbols::trim(s, Span { start, end: comma }, Class::Blank);
+    let part = call_commas::split_top_level_commas(s, start, quotes);
+    let end = part.end;
+    let behind = part.quotes;
+    let span = text_symbols::trim(s, Span { start, end }, Class::Blank);
     Branch {
         start: span.start,
         end: span.end,
-        next: comma + 1,
+        next: end + 1,
+        quotes: behind,
     }
 }
 
@@ -58,11 +66,13 @@ fn put_branches(work: &mut [u8], to: usize, count: usize, from: usize, n: usize)
     let end = from + n;
     let mut written = count;
     let mut later = false;
+    let mut quotes = Quotes::new();
     let mut start = 0;
     while start <= n {
-        let branch = branch_at(&work[from..end], start);
+        let branch = branch_at(&work[from..end], start, quotes);
         let k = branch.end - branch.start;
         start = branch.next;
+        quotes = branch.quotes;
         if k == 0 {
             continue;
         }

@@ -1,9 +1,9 @@
--- The conversion as it was with the Rust's put-back: number 6 refused a text in which that loses a block, and for number 5 the blocks were put back in
--- the order of their marks. Every call that it accepted has the same answer and bytes by `converted`, which puts every block to its own mark.
--- Assumes nothing.
---     convertedBefore    what a call came to
---     before-or-six      it came to 6, or to what it comes to now
---     accepted-before    so an accepted call is accepted now, with the same bytes
+-- The conversion with the Rust's put-back, as it was before A2: number 6 refuses a text in which that loses a block, and for number 5 the blocks are
+-- put back in the order of their marks. Every call that it accepts has the same answer and bytes by `converted`, which puts every block to its own
+-- mark. The other stages are those of `converted`. Assumes nothing.
+--     convertedBefore    what a call comes to with it
+--     before-or-six      it comes to 6, or to what it comes to by `converted`
+--     accepted-before    so an accepted call is accepted by `converted`, with the same bytes
 use mathlib.Core.Path.{_≡_, refl, sym, ap, _∙_}
 use mathlib.Core.Bool.{Bool, true, false, cond}
 use mathlib.Core.List.{List, [], _∷_, _++_}
@@ -33,7 +33,7 @@ use Rattle.held_laws.specs.Rewriting.{Between, sweep-made}
 use Rattle.held_laws.specs.Instances.{any-unmarked, EverySound, defined-between, fineRow, fineRows, greek-fine, words-fine, greek-between, word-between, refused-not, passed-one, table-sound, definitions-made, rows-made}
 use Rattle.stage_laws.specs.Each.{Each}
 use Rattle.stage_laws.specs.Calls.{unmarked}
-use Rattle.stage_laws.specs.Stages.{PassesUnmarked, pass, stop, beforeDefinitions, beforeWords, before-definitions-passes, before-words-passes}
+use Rattle.stage_laws.specs.Stages.{Passes, pass, stop, beforeDefinitions, beforeWords, before-definitions-passes, before-words-passes}
 use Rattle.stage_laws.specs.Outside.{each-bare, bare-each, outside-passes}
 use Rattle.held_placeholders.specs.Numbered.{rustPutBack}
 use Rattle.held_placeholders.specs.PutBack.{rust-own}
@@ -171,7 +171,7 @@ syntax-six-or : (display : Bool) (s : List ℕ) → Each unmarked s → SixOr (c
 unfolding convertSyntax
 syntax-six-or display s free = then-six-or (behindWords display) refl (go (beforeWords s) (before-words-passes s free))
   where
-    go : (r : Result (List ℕ)) → PassesUnmarked r → SixOr (r then wordsBefore) (r then convertWords)
+    go : (r : Result (List ℕ)) → Passes unmarked r → SixOr (r then wordsBefore) (r then convertWords)
     go (passed t) (pass a) = words-six-or t (each-bare a)
     go (refused n) stop = inr refl
 
@@ -182,11 +182,11 @@ latex-six-or ds sound display s free = then-six-or behind refl (go (beforeDefini
     behind : Result (List ℕ) → Result (List ℕ)
     behind r = r then stage convertAlignment then stage dropThinSpaceAfterCommands
 
-    next : (r : Result (List ℕ)) → PassesUnmarked r → SixOr (r then convertSyntaxBefore display) (r then convertSyntax display)
+    next : (r : Result (List ℕ)) → Passes unmarked r → SixOr (r then convertSyntaxBefore display) (r then convertSyntax display)
     next (passed t) (pass a) = syntax-six-or display t a
     next (refused n) stop = inr refl
 
-    go : (r : Result (List ℕ)) → PassesUnmarked r
+    go : (r : Result (List ℕ)) → Passes unmarked r
         → SixOr (r then outsideTextBefore ds then convertSyntaxBefore display) (r then applyDefinitionsOutsideText ds then convertSyntax display)
     go (passed t) (pass a) =
         ⊎-elim (λ six. inl (ap (λ r. r then convertSyntaxBefore display) six))

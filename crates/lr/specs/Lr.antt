@@ -112,7 +112,7 @@ abbrev bareIn : Option (List ℕ) → Bool
 bareIn o = elim o [ some inner ↦ eqb (length inner) 1 && elim (delimiters (head inner)) [ some d ↦ true | none ↦ false ] | none ↦ false ]
 
 pub lr-waits : Waits lrName lr
-lr-waits = calling-waits lrName latexLr
+lr-waits = calling-waits (λ s. s) lrName latexLr
 
 pub record Bared (w w′ : List ℕ) (from n to : ℕ) : Type 0 where
   pub reaches : reached bareDelimiter lr 0 0 (part from n w) ≡ true
@@ -147,7 +147,7 @@ lr-absent s short absent =
 module _
     {w₀ w : List ℕ} {from n to cap count₀ count i : ℕ}
     (sweeping : Sweeping lr w₀ w from n to cap count₀ count i) (more : i < n)
-    {r : Found} (called : Called lrName (restFrom from n i w) r)
+    {r : Found} (called : Called (λ s. s) lrName (restFrom from n i w) r)
   where
     abbrev source : List ℕ
     source = part from n w₀
@@ -157,7 +157,7 @@ module _
 
     pub comes-past-no-call : r ≡ Nothing → comes bareDelimiter lr source i ≡ comes bareDelimiter lr source (i + 1)
     comes-past-no-call e =
-        let none-here : callAt lrName (drop i source) ≡ none = call-read sweeping more called ∙ ap (innerAt lrName (drop i source)) e in
+        let none-here : callAt (λ s. s) lrName (drop i source) ≡ none = call-read sweeping more called ∙ ap (innerAt lrName (drop i source)) e in
         let next : i + 1 + 0 ≡ i + 1 = omega arith in
         comes-turn bareDelimiter lr source i inside-i (ap (rewritten lrName latexLr (drop i source)) none-here)
         ∙ ap (λ o. bareIn o || comes bareDelimiter lr source (i + 1 + 0)) none-here
@@ -171,7 +171,7 @@ module _
       pub inner-read : part (from + (i + 3)) k w ≡ take k (drop (i + 3) source)
       inner-read = symbols-read sweeping (i + 3) k (let f = fits in omega arith)
 
-      call-here : callAt lrName (drop i source) ≡ some (part (from + (i + 3)) k w)
+      call-here : callAt (λ s. s) lrName (drop i source) ≡ some (part (from + (i + 3)) k w)
       call-here = call-read sweeping more called ∙ ap (innerAt lrName (drop i source)) e ∙ ap (λ s. some (take k s)) (drop-drop 3 i source) ∙ ap some (sym inner-read)
 
       inner-long : length (part (from + (i + 3)) k w) ≡ k

@@ -22,12 +22,15 @@ pub enum Ended {
     Bare,
 }
 
-// The length of what stands inside the `lr(` that the text begins with.
+// The length of what stands inside the `lr(` that the text begins with. Unlike a call's search this one counts quoted parentheses.
 fn lr_at(s: &[u8]) -> Found
     requires { ⌜ length (now s) ≤ halfWork ⌝ }
-    ensures { λ r. ⌜ Called lrName (now (s .entry)) r ⌝ }
+    ensures { λ r. ⌜ Called (λ s. s) lrName (now (s .entry)) r ⌝ }
 {
-    call_rewriting::call_at(s, b"lr(")
+    if text_search::starts_with(s, b"lr(") {
+        return text_closing::find_matching_paren(&s[3..]);
+    }
+    Found::Nothing
 }
 
 fn is_delimiter(b: u8) -> bool

@@ -7,6 +7,7 @@ use Prim.Native.Nat.{ℕ}
 use Rattle.spec.specs.Symbols.{bytes, ends, find}
 use Rattle.spec.specs.Sweep.{sweep}
 use Rattle.spec.specs.Result.{stage}
+use Rattle.spec.specs.Closing.{overQuotes}
 use Rattle.spec.specs.Calls.{convertCalls, convertBinom}
 use Rattle.spec.specs.Words.{convertSqrt}
 use Rattle.spec.specs.Scripts.{wrapTextSubscripts}
@@ -18,7 +19,7 @@ use Rattle.spec.specs.Laws.Absent.{no-bare, calling-waits, binom-waits, paren-t
 -- ---- calls
 pub calls-copy : (name : List ℕ) (write : List ℕ → List ℕ) (s : List ℕ) → find name s ≡ none → convertCalls name write s ≡ s
 unfolding convertCalls
-calls-copy name write s e = sweep-absent (calling-waits name write) s 0 e
+calls-copy name write s e = sweep-absent (calling-waits overQuotes name write) s 0 e
 
 pub binom-copies : (s : List ℕ) → find (bytes "binom(") s ≡ none → convertBinom s ≡ s
 unfolding convertBinom
@@ -35,11 +36,11 @@ wrap-text-copies sign s e = sweep-absent (wrap-text-waits sign) s 0 e
 
 -- ---- lr
 pub lr-sweep-copies : (s : List ℕ) → find (bytes "lr(") s ≡ none → sweep lr 0 0 s ≡ s
-lr-sweep-copies s e = sweep-absent (calling-waits (bytes "lr(") latexLr) s 0 e
+lr-sweep-copies s e = sweep-absent (calling-waits (λ s. s) (bytes "lr(") latexLr) s 0 e
 
 pub lr-is-stage : (s : List ℕ) → find (bytes "lr(") s ≡ none → convertLr s ≡ stage (sweep lr 0 0) s
 unfolding convertLr
-lr-is-stage s e = rw (reached-absent bareDelimiter (calling-waits (bytes "lr(") latexLr) no-bare s 0 e, convertLr)
+lr-is-stage s e = rw (reached-absent bareDelimiter (calling-waits (λ s. s) (bytes "lr(") latexLr) no-bare s 0 e, convertLr)
 
 -- ---- alignment
 pub alignment-copies : (s : List ℕ) → find (bytes "&") s ≡ none → find (bytes " \\\n") s ≡ none → ends (bytes " \\") s ≡ false → convertAlignment s ≡ s

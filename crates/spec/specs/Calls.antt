@@ -1,6 +1,7 @@
 -- The call rewritings, `op` to the second `upright`, in the Rust's order. A name holds its own parenthesis, as `bb(`.
 --     callAt         what stands inside the call that the text begins with, if its parenthesis is closed
 --     rewritten      the turn of a call rewriting: where no closer is found, one symbol is copied
+-- `seen` is what a search sees of the text behind a call's parenthesis: `overQuotes` in all calls here, and in `lr` the text as it is.
 -- Assumes nothing.
 use mathlib.Core.Bool.{true, false, cond}
 use mathlib.Core.List.{List, [], _∷_, _++_, map}
@@ -10,13 +11,13 @@ use lib.ListN.{length, drop}
 use Rattle.spec.specs.Symbols.{bytes, is, _andThen_, empty, until, inside, dropWhileEnd, trim, trimQuotes, starts, find}
 use Rattle.spec.specs.Sweep.{Turn, Rule, taken, kept, sweep, replace}
 use Rattle.spec.specs.Result.{Result, _then_, stage}
-use Rattle.spec.specs.Closing.{findMatchingParen, findCommaInArgs, findUnescapedComma, splitTopLevelCommas, close, commaBehind, unescapedBehind, splitFrom}
+use Rattle.spec.specs.Closing.{findMatchingParen, findCommaInArgs, findUnescapedComma, splitTopLevelCommas, close, commaBehind, unescapedBehind, splitFrom, overQuotes, seenFrom, cutAlike}
 
-unfoldable pub callAt : List ℕ → List ℕ → Option (List ℕ)
+unfoldable pub callAt : (List ℕ → List ℕ) → List ℕ → List ℕ → Option (List ℕ)
 unfolding close
-callAt name s =
+callAt seen name s =
     let rest = drop (length name) s in
-    elim (starts name s) [ true ↦ findMatchingParen rest andThen λ behind. some (inside rest behind) | false ↦ none ]
+    elim (starts name s) [ true ↦ findMatchingParen (seen rest) andThen λ behind. some (inside rest behind) | false ↦ none ]
 
 -- the symbols of a call: its name, what stands inside, and the closer
 abbrev pub callLength : List ℕ → List ℕ → ℕ
@@ -26,12 +27,12 @@ abbrev pub rewritten : List ℕ → (List ℕ → List ℕ) → List ℕ → Opt
 rewritten name write s none = kept s
 rewritten name write s (some inner) = taken (callLength name inner) (write inner)
 
-abbrev pub calling : List ℕ → (List ℕ → List ℕ) → Rule
-calling name write before s = rewritten name write s (callAt name s)
+abbrev pub calling : (List ℕ → List ℕ) → List ℕ → (List ℕ → List ℕ) → Rule
+calling seen name write before s = rewritten name write s (callAt seen name s)
 
 unfoldable pub convertCalls : List ℕ → (List ℕ → List ℕ) → List ℕ → List ℕ
-unfolding sweep callAt
-convertCalls name write s = sweep (calling name write) 0 0 s
+unfolding sweep callAt seenFrom
+convertCalls name write s = sweep (calling overQuotes name write) 0 0 s
 
 -- ---- convert_op
 abbrev pub convertOp : List ℕ → List ℕ
@@ -48,18 +49,20 @@ joined between (b ∷ []) = b
 joined between (b ∷ c ∷ bs) = b ++ between ++ joined between (c ∷ bs)
 
 unfoldable pub latexCases : List ℕ → List ℕ
-unfolding splitFrom
-latexCases inner = bytes "\\begin{cases} " ++ joined (bytes " \\\\ ") (nonblank (map trim (splitTopLevelCommas inner))) ++ bytes " \\end{cases}"
+unfolding splitFrom seenFrom
+latexCases inner =
+    let parts = cutAlike (splitTopLevelCommas (overQuotes inner)) inner in
+    bytes "\\begin{cases} " ++ joined (bytes " \\\\ ") (nonblank (map trim parts)) ++ bytes " \\end{cases}"
 
 -- the text s with its call, which begins at `at` and holds `inner`, written as `fresh`
 abbrev pub spliced : List ℕ → List ℕ → List ℕ → List ℕ → List ℕ → List ℕ
 spliced s at name inner fresh = until s at ++ fresh ++ drop (callLength name inner) at
 
 unfoldable pub casesOnce : List ℕ → Option (List ℕ)
-unfolding find callAt latexCases
+unfolding find callAt seenFrom latexCases
 casesOnce s =
     find (bytes "cases(") s andThen λ at.
-    callAt (bytes "cases(") at andThen λ inner.
+    callAt overQuotes (bytes "cases(") at andThen λ inner.
     some (spliced s at (bytes "cases(") inner (latexCases inner))
 
 unfoldable pub convertCases : List ℕ → List ℕ
@@ -89,10 +92,10 @@ latexAttach inner =
 
 -- one rewriting, if there is one
 unfoldable pub attachOnce : List ℕ → Option (List ℕ)
-unfolding find callAt latexAttach
+unfolding find callAt seenFrom latexAttach
 attachOnce s =
     find (bytes "attach(") s andThen λ at.
-    callAt (bytes "attach(") at andThen λ inner.
+    callAt overQuotes (bytes "attach(") at andThen λ inner.
     latexAttach inner andThen λ fresh.
     some (spliced s at (bytes "attach(") inner fresh)
 
@@ -117,16 +120,17 @@ convertBold s = convertCalls (bytes "bold(") (λ inner. bytes "\\mathbf{" ++ inn
 -- ---- convert_binom: with no comma at its top level a call is copied as ordinary text
 abbrev pub binomAt : List ℕ → Option Turn
 binomAt s =
-    callAt (bytes "binom(") s andThen λ inner.
-    findCommaInArgs inner andThen λ second.
-    let first = inside inner second in
+    callAt overQuotes (bytes "binom(") s andThen λ inner.
+    findCommaInArgs (overQuotes inner) andThen λ behind.
+    let first = inside inner behind in
+    let second = drop (suc (length first)) inner in
     some (taken (callLength (bytes "binom(") inner) (bytes "\\binom{" ++ trim first ++ bytes "}{" ++ trim second ++ bytes "}"))
 
 abbrev pub binom : Rule
 binom before s = Option·getD (binomAt s) (kept s)
 
 unfoldable pub convertBinom : List ℕ → List ℕ
-unfolding sweep callAt commaBehind
+unfolding sweep callAt seenFrom commaBehind
 convertBinom s = sweep binom 0 0 s
 
 -- ---- convert_upright

@@ -3,13 +3,15 @@
 --     close                  what stands behind the closer of d + 1 open brackets: the first place where closers exceed openers
 --     level                  do all brackets of the text close, none before it opens?
 --     findMatchingParen ..   the Rust's searches, by their names
-use mathlib.Core.Bool.{Bool, true, false, _&&_, _||_}
+--     overQuotes             the text as the searches of a call see it, which pass over quoted parentheses: request A8
+use mathlib.Core.Bool.{Bool, true, false, not, _&&_, _||_}
 use mathlib.Core.List.{List, [], _∷_}
 use mathlib.Core.Option.{Option, none, some}
 use Prim.Native.Nat.{ℕ, zero, suc, pred}
 use Prim.Native.Char.{code}
 use lib.Dec.{eqb}
-use Rattle.spec.specs.Symbols.{is, past}
+use lib.ListN.{length, take, drop}
+use Rattle.spec.specs.Symbols.{bytes, is, past, contains}
 
 pub data Side : Type 0 where
   opens closes neither : Side
@@ -66,6 +68,23 @@ abbrev pub orEnd : Option (List ℕ) → List ℕ
 orEnd none = []
 orEnd (some s) = s
 
+-- ---- quotes
+-- Does what follows the symbol x stand between a quote and the next one? A quote with no next one is an ordinary symbol.
+abbrev pub quotedAfter : Bool → ℕ → List ℕ → Bool
+quotedAfter quoted x s = elim (is "\"" x) [ true ↦ not quoted && contains (bytes "\"") s | false ↦ quoted ]
+
+-- a quoted parenthesis is seen as a quote, which no search counts
+abbrev pub seenAs : Bool → ℕ → ℕ
+seenAs quoted x = elim (quoted && (is "(" x || is ")" x)) [ true ↦ code "\"" | false ↦ x ]
+
+unfoldable pub seenFrom : Bool → List ℕ → List ℕ
+seenFrom quoted [] = []
+seenFrom quoted (x ∷ s) = seenAs quoted x ∷ seenFrom (quotedAfter quoted x s) s
+
+-- the text with what is passed over, from behind the call's parenthesis on
+abbrev pub overQuotes : List ℕ → List ℕ
+overQuotes s = seenFrom false s
+
 -- ---- commas
 -- brackets of any kind
 abbrev pub anySide : ℕ → Side
@@ -108,3 +127,8 @@ splitFrom opened closed (x ∷ s) =
 
 abbrev pub splitTopLevelCommas : List ℕ → List (List ℕ)
 splitTopLevelCommas s = splitFrom 0 0 s
+
+-- the text cut into parts as long as those given, a comma behind each
+abbrev pub cutAlike : List (List ℕ) → List ℕ → List (List ℕ)
+cutAlike [] s = []
+cutAlike (part ∷ parts) s = take (length part) s ∷ cutAlike parts (drop (suc (length part)) s)

@@ -67,13 +67,13 @@ latexLr inner =
     ]
 
 abbrev pub lr : Rule
-lr = calling (bytes "lr(") latexLr
+lr = calling (λ s. s) (bytes "lr(") latexLr
 
 -- Number 8: the inside is a delimiter alone, and the Rust panics. Only `[` and `|` can be: a `(` would take the closer of `lr(` for its own, and a `{`
 -- behind `lr(` has been escaped.
 abbrev pub bareDelimiter : List ℕ → Bool
 bareDelimiter s =
-    elim (callAt (bytes "lr(") s) [
+    elim (callAt (λ s. s) (bytes "lr(") s) [
       | some inner ↦ eqb (length inner) 1 && elim (delimiters (head inner)) [ some d ↦ true | none ↦ false ]
       | none ↦ false
     ]

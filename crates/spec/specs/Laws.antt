@@ -4,6 +4,7 @@ pub mod Symbols
 pub mod Names
 pub mod Ends
 pub mod Sweep
+pub mod Closing
 pub mod Absent
 pub mod Matches
 pub mod Held

@@ -2,16 +2,19 @@
 --     Each             each symbol passes the test
 --     EachIf           each symbol of a text that may be missing
 --     EachPart         each symbol of each of some texts
+--     each-within      a text of listed symbols, which all pass
 --     each-take, ..    so do those of a part, of a text without its ends, and of two texts together
 --     each-sweep       a sweep keeps it, where its rule writes only such symbols
-use mathlib.Core.Path.{_≡_}
-use mathlib.Core.Bool.{Bool, true, false, cond}
+use mathlib.Core.Path.{_≡_, ap, _∙_}
+use mathlib.Core.Bool.{Bool, true, false, cond, false≢true}
 use mathlib.Core.List.{List, [], _∷_, _++_, reverse, reverseAux}
 use mathlib.Core.Option.{Option, none, some, Option·getD}
 use Prim.Native.Nat.{ℕ, zero, suc}
+use lib.Dec.{eqb}
 use lib.ListN.{length, take, drop}
-use Rattle.spec.specs.Laws.Booleans.{and-left, and-right}
-use Rattle.spec.specs.Symbols.{_andThen_, all, starts, dropWhile, dropWhileEnd, find}
+use borrow.Author.Tests.{eqb-true}
+use Rattle.spec.specs.Laws.Booleans.{and-left, and-right, or-split}
+use Rattle.spec.specs.Symbols.{_andThen_, all, any, starts, dropWhile, dropWhileEnd, find}
 use Rattle.spec.specs.Sweep.{Rule, kept, taken, sweep, replacing, replace}
 
 pub data Each (f : ℕ → Bool) : List ℕ → Type 0 where
@@ -26,10 +29,22 @@ pub data EachPart (f : ℕ → Bool) : List (List ℕ) → Type 0 where
   none-left : EachPart f []
   part : {s : List ℕ} {ss : List (List ℕ)} → Each f s → EachPart f ss → EachPart f (s ∷ ss)
 
+-- each symbol of s is one of ks
+abbrev pub within : List ℕ → List ℕ → Bool
+within ks s = all (λ x. any (eqb x) ks) s
+
 module _ {f : ℕ → Bool} where
   pub each-of : (s : List ℕ) → all f s ≡ true → Each f s
   each-of [] e = done
   each-of (x ∷ s) e = more (and-left (f x) (all f s) e) (each-of s (and-right (f x) (all f s) e))
+
+  one-passes : {s : List ℕ} → Each f s → (y : ℕ) → any (eqb y) s ≡ true → f y ≡ true
+  one-passes done y e = absurd (false≢true e)
+  one-passes (more {x} {s} h a) y e = or-split (eqb y x) (any (eqb y) s) e (λ q. ap f (eqb-true y x q) ∙ h) (one-passes a y)
+
+  pub each-within : {ks : List ℕ} → Each f ks → (s : List ℕ) → within ks s ≡ true → Each f s
+  each-within a [] e = done
+  each-within {ks} a (x ∷ s) e = more (one-passes a x (and-left (any (eqb x) ks) (within ks s) e)) (each-within a s (and-right (any (eqb x) ks) (within ks s) e))
 
   pub each-append : {s t : List ℕ} → Each f s → Each f t → Each f (s ++ t)
   each-append done b = b

@@ -7,3 +7,6 @@ pub mod Quotes
 pub mod Stages
 pub mod Outside
 pub mod SameRecords
+pub mod RustCalls
+pub mod PassedOver
+pub mod CallStages

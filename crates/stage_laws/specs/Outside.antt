@@ -18,7 +18,7 @@ use Rattle.held_laws.specs.Holding.{hold-texts-made}
 use Rattle.held_laws.specs.Instances.{EverySound, definitions-made}
 use Rattle.stage_laws.specs.Each.{Each, done, more}
 use Rattle.stage_laws.specs.Calls.{unmarked}
-use Rattle.stage_laws.specs.Stages.{PassesUnmarked, pass, stop}
+use Rattle.stage_laws.specs.Stages.{Passes, pass, stop}
 
 pub each-bare : {s : List ℕ} → Each unmarked s → hasMark s ≡ false
 each-bare done = refl
@@ -28,10 +28,10 @@ pub bare-each : (s : List ℕ) → hasMark s ≡ false → Each unmarked s
 bare-each [] e = done
 bare-each (x ∷ s) e = let parts = or-neither (isMark x) (hasMark s) e in more (ap not (parts .0)) (bare-each s (parts .1))
 
-pub outside-passes : (ds : List Definition) → EverySound (inOrder ds) → (s : List ℕ) → Each unmarked s → PassesUnmarked (applyDefinitionsOutsideText ds s)
+pub outside-passes : (ds : List Definition) → EverySound (inOrder ds) → (s : List ℕ) → Each unmarked s → Passes unmarked (applyDefinitionsOutsideText ds s)
 unfolding applyDefinitionsOutsideText
 outside-passes ds sound s a = go (applyDefinitions (inOrder ds) (holdTexts s)) refl
   where
-    go : (r : Result Held) → applyDefinitions (inOrder ds) (holdTexts s) ≡ r → PassesUnmarked (r then putBack)
+    go : (r : Result Held) → applyDefinitions (inOrder ds) (holdTexts s) ≡ r → Passes unmarked (r then putBack)
     go (passed h) e = pass (bare-each _ (in-full-free (definitions-made (inOrder ds) sound (hold-texts-made s (each-bare a)) e)))
     go (refused n) e = stop

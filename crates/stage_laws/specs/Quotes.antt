@@ -6,24 +6,24 @@ use Prim.Native.Nat.{ℕ, zero, suc}
 use Rattle.spec.specs.Symbols.{bytes, is, blank, trimStart}
 use Rattle.spec.specs.Quotes.{gapBefore, openQuote, gapBehind, closeQuote, skipped, quotes, convertTextQuotes}
 use Rattle.stage_laws.specs.Each.{Each, done, more, each-of, each-reverse, each-reverse-onto, each-drop-while, each-either}
-use Rattle.stage_laws.specs.Calls.{unmarked, Unmarked}
+use Rattle.stage_laws.specs.Calls.{unmarked}
 
-open-unmarked : {o : List ℕ} → Unmarked o → Unmarked (openQuote o)
+open-unmarked : {o : List ℕ} → Each unmarked o → Each unmarked (openQuote o)
 open-unmarked {o} a =
     each-reverse-onto (each-of (bytes "\\text{") refl)
     (each-either (gapBefore (trimStart o)) (each-reverse-onto (each-of (bytes "\\;") refl) (each-drop-while blank a)) a)
 
-close-unmarked : {o : List ℕ} (s : List ℕ) → Unmarked o → Unmarked (closeQuote o s)
+close-unmarked : {o : List ℕ} (s : List ℕ) → Each unmarked o → Each unmarked (closeQuote o s)
 close-unmarked s a = each-reverse-onto (each-either (gapBehind s) (each-of (bytes "\\;") refl) done) (more refl a)
 
-run-unmarked : (quoted : Bool) (skip : ℕ) {o s : List ℕ} → Unmarked o → Unmarked s → Unmarked (quotes quoted skip o s)
+run-unmarked : (quoted : Bool) (skip : ℕ) {o s : List ℕ} → Each unmarked o → Each unmarked s → Each unmarked (quotes quoted skip o s)
 unfolding quotes
 run-unmarked quoted skip a done = each-either quoted (more refl a) a
 run-unmarked quoted (suc skip) a (more e b) = run-unmarked quoted skip a b
 run-unmarked quoted zero {o} a (more {x} {s} e b) = go (is "\"" x) quoted (λ q k p c. run-unmarked q k c b)
   where
-    go : (t q : Bool) → ((q : Bool) (k : ℕ) (p : List ℕ) → Unmarked p → Unmarked (quotes q k p s))
-        → Unmarked (elim t as (λ t. List ℕ) [
+    go : (t q : Bool) → ((q : Bool) (k : ℕ) (p : List ℕ) → Each unmarked p → Each unmarked (quotes q k p s))
+        → Each unmarked (elim t as (λ t. List ℕ) [
           | false ↦ quotes q 0 (x ∷ o) s
           | true ↦ elim q as (λ q. List ℕ) [ false ↦ quotes true 0 (openQuote o) s | true ↦ quotes false (skipped s) (closeQuote o s) s ]
         ])

@@ -1,6 +1,7 @@
 // Runs functions of the Rust, each by itself, on lines of standard input, and writes what becomes of each line. A line that begins
-// with `#` is a heading: it begins the next section. Sections 1 to 19 are stages in the Rust's order, 20 to 25 closing and comma
+// with `#` is a heading: it begins the next section. Sections 1 to 19 are stages in the Rust's order, 20 to 26 closing and comma
 // searches, and the last one is the plain check. What `oracle/run stages` writes for the same lines is the file `stdout`.
+use call_quotes::Quotes;
 use text::Progress;
 use text_search::Found;
 ghost use Prim.Native.Nat.{_≤_};
@@ -46,6 +47,14 @@ fn convert_syntax(work: &mut [u8], section: usize, text: Progress) -> Progress
     }
 }
 
+// The end of the first part.
+fn first_part(s: &[u8]) -> Found
+    requires { ⌜ length (now s) ≤ mostSymbols ⌝ }
+{
+    let part = call_commas::split_top_level_commas(s, 0, Quotes::new());
+    Found::At(part.end)
+}
+
 fn search(section: usize, s: &[u8]) -> Found
     requires { ⌜ length (now s) ≤ mostSymbols ⌝ }
 {
@@ -55,7 +64,8 @@ fn search(section: usize, s: &[u8]) -> Found
         22 => text_closing::matching_delimiter(s, b'(', b')'),
         23 => call_commas::find_comma_in_args(s),
         24 => call_commas::find_unescaped_comma(s),
-        _ => Found::At(call_commas::split_top_level_commas(s, 0)),
+        25 => first_part(s),
+        _ => call_quotes::find_call_end(s),
     }
 }
 
@@ -106,7 +116,7 @@ fn run(work: &mut [u8], section: usize, formula: &[u8])
 }
 
 fn answer(section: usize, s: &[u8]) {
-    if 25 < section {
+    if 26 < section {
         show_atoms(plain_check::plain_check(s));
         return;
     }

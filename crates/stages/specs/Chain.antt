@@ -22,7 +22,7 @@ use Rattle.held_stages.specs.Outside.{UnmarkedProgress}
 use Rattle.held_laws.specs.Marks.{hasMark}
 use Rattle.stage_laws.specs.Each.{Each}
 use Rattle.stage_laws.specs.Calls.{unmarked}
-use Rattle.stage_laws.specs.Stages.{PassesUnmarked, pass, stop, beforeDefinitions, beforeWords}
+use Rattle.stage_laws.specs.Stages.{Passes, pass, stop, beforeDefinitions, beforeWords}
 use Rattle.stage_laws.specs.Outside.{each-bare, bare-each}
 use Rattle.stages.specs.Fit.{Bare, Admissible}
 
@@ -30,18 +30,18 @@ pub staged-ready : {w w′ : List ℕ} {p p′ : Progress} {f : List ℕ → Res
 staged-ready r s = answered-ready r (s .answered)
 
 -- ---- texts without a mark
-passes-bare : {r : Result (List ℕ)} → PassesUnmarked r → Bare r
+passes-bare : {r : Result (List ℕ)} → Passes unmarked r → Bare r
 passes-bare (pass {s} a) = record { unmarked = λ t e. let same : s ≡ t = cc in subst (λ u. hasMark u ≡ false) same (each-bare a) }
 passes-bare (stop {n}) = record { unmarked = λ t e. absurd (differ e) }
   where
     differ : {t : List ℕ} → refused n ≡ passed t → ⊥
     differ e = let z : _≡_ {A = ℕ} 0 1 = cc in omega arith
 
-module _ {w w′ : List ℕ} {p p′ : Progress} {f : List ℕ → Result (List ℕ)} (keeps : (s : List ℕ) → Each unmarked s → PassesUnmarked (f s)) (a : Answered w w′ p p′ f) where
+module _ {w w′ : List ℕ} {p p′ : Progress} {f : List ℕ → Result (List ℕ)} (keeps : (s : List ℕ) → Each unmarked s → Passes unmarked (f s)) (a : Answered w w′ p p′ f) where
   pub bare-after : Bare (shown p w) → Bare (shown p′ w′)
   bare-after b = subst Bare (sym (a .answer)) (passes-bare (go (shown p w) b))
     where
-      go : (r : Result (List ℕ)) → Bare r → PassesUnmarked (r then f)
+      go : (r : Result (List ℕ)) → Bare r → Passes unmarked (r then f)
       go (passed s) b = keeps s (bare-each s (b .unmarked s refl))
       go (refused n) b = stop
 
@@ -57,7 +57,7 @@ pub bare-unmarked : (w : List ℕ) (p : Progress) → Bare (shown p w) → Unmar
 bare-unmarked w (Text at n) b = b .unmarked (part at n w) refl
 bare-unmarked w (Refused k) b = tt
 
-pub unmarked-after : {w w′ : List ℕ} {p p′ : Progress} {f : List ℕ → Result (List ℕ)} → ((s : List ℕ) → Each unmarked s → PassesUnmarked (f s)) → Answered w w′ p p′ f → Bare (shown p w) → UnmarkedProgress w′ p′
+pub unmarked-after : {w w′ : List ℕ} {p p′ : Progress} {f : List ℕ → Result (List ℕ)} → ((s : List ℕ) → Each unmarked s → Passes unmarked (f s)) → Answered w w′ p p′ f → Bare (shown p w) → UnmarkedProgress w′ p′
 unmarked-after {w′ = w′} {p′ = p′} keeps a b = bare-unmarked w′ p′ (bare-after keeps a b)
 
 pub fit-sound : (w : List ℕ) {table : List ℕ} {p : Progress} {at n : ℕ} → p ≡ Text at n → Admissible table (shown p w) → definitions table ≡ some (definitionsOr table)

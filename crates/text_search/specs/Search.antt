@@ -184,8 +184,12 @@ contains-not w s f e = sym (contains-find w s) ∙ ap isSome (finds-nothing f e)
 pub until-drop : (s : List ℕ) (k : ℕ) → k ≤ length s → until s (drop k s) ≡ take k s
 until-drop s k h = let l = length-drop k s in let e : length s - length (drop k s) ≡ k = omega arith in ap (λ m. take m s) e
 
+-- only the length counts of the text that was searched
+pub inside-alike : (s v : List ℕ) → length v ≡ length s → (k : ℕ) → k < length s → inside s (drop (k + 1) v) ≡ take k s
+inside-alike s v long k h = let l = length-drop (k + 1) v in let e : pred (length s - length (drop (k + 1) v)) ≡ k = omega arith in ap (λ m. take m s) e
+
 pub inside-drop : (s : List ℕ) (k : ℕ) → k < length s → inside s (drop (k + 1) s) ≡ take k s
-inside-drop s k h = let l = length-drop (k + 1) s in let e : pred (length s - length (drop (k + 1) s)) ≡ k = omega arith in ap (λ m. take m s) e
+inside-drop s k h = inside-alike s s refl k h
 
 -- ---- a search in the rest of a slice, as `&s[i..]` takes it
 module _ (s : List ℕ) (i : ℕ) (f : List ℕ → Option (List ℕ)) {r : Found} where

@@ -9,6 +9,7 @@ fn main() {
         "U_1 = U_0 10^(gain/20)",
         "L = 20 log_10 (U/U_0) \"dB\"",
         "f_0 = 1/(2 pi sqrt(L C))",
+        "op(\"U (peak)\")_1",
         "lr(|)",
     ] {
         match jistranu::typst_to_latex(formula, &definitions, true) {

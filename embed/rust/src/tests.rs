@@ -45,6 +45,15 @@ fn quoted_text_goes_back_to_its_own_place() {
 }
 
 #[test]
+fn quoted_parentheses_close_no_call() {
+    let none = HashMap::new();
+    let printed = |formula: &str| typst_to_latex(formula, &none, true);
+    assert_eq!(printed("op(\"a)b\")").as_deref(), Ok(r"\operatorname{a)b}"));
+    assert_eq!(printed("binom(\"(\", c)").as_deref(), Ok(r"\binom{\text{(}}{c}"));
+    assert_eq!(printed("op(\")").as_deref(), Ok(r"\operatorname{}"));
+}
+
+#[test]
 fn refuses_by_its_number() {
     let none = HashMap::new();
     let refused = |formula: &str| typst_to_latex(formula, &none, true).unwrap_err();

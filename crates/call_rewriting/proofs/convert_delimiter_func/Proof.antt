@@ -1,6 +1,7 @@
 -- `call_rewriting::convert_delimiter_func` meets its contract: a name that is nowhere leaves the text as it is, and else the rewritten text is judged. Assumes nothing.
 use Rattle.call_rewriting.specs.Delimiters.{delimited}
 use Rattle.text.specs.Due.{staged-absent, pattern-occurs, staged-appended}
+use Rattle.spec.specs.Closing.{overQuotes}
 use Rattle.spec.specs.Calls.{convertCalls}
 use Rattle.spec.specs.Laws.Sweep.{sweep-absent}
 use Rattle.spec.specs.Laws.Absent.{calling-waits}
@@ -14,7 +15,7 @@ returns c =
     let at-start : tie.Start = search in
     let name = at-start .args .name .now in
     let write = delimited (at-start .args .trims) (at-start .args .left .now) (at-start .args .right .now) in
-    staged-absent (c .before .before .due-for .ensures) (c .enum-told .given .1) (convertCalls name write) (λ s absent. sweep-absent (calling-waits name write) s 0 absent)
+    staged-absent (c .before .before .due-for .ensures) (c .enum-told .given .1) (convertCalls name write) (λ s absent. sweep-absent (calling-waits overQuotes name write) s 0 absent)
 
 rewrite-calls-requires : tie.Need-rewrite-calls-requires
 rewrite-calls-requires c κs =

@@ -3,6 +3,7 @@ use Rattle.spec.specs.Result.{mostSymbols}
 use Rattle.call_rewriting.specs.Delimiters.{delimited, call-fits, called-here, copied-here, argument-written, written-few}
 use Rattle.text.specs.Sweep.{Sweeping, sweeping-none, sweeping-all, symbols-apart, turn-room, one-room}
 use Rattle.text_symbols.specs.Parts.{part, length-part}
+use Rattle.spec.specs.Closing.{overQuotes}
 use Rattle.spec.specs.Calls.{calling, convertCalls}
 use lib.ListN.{length, drop, length-take, length-drop}
 use mathlib.Core.Path.{_≡_, refl}
@@ -14,7 +15,7 @@ use Rattle.call_rewriting.proofs.rewrite_calls.Tie as tie
 
 abbrev Inv-loop : tie.InvT-loop
 Inv-loop work₀ from n to name left right trims end count₀ i₀ work count i =
-    (end ≡ from + n) × Sweeping (calling name (delimited trims left right)) work₀ work from n to mostSymbols 0 count i
+    (end ≡ from + n) × Sweeping (calling overQuotes name (delimited trims left right)) work₀ work from n to mostSymbols 0 count i
 
 abbrev μ-loop : tie.MeasureT-loop
 μ-loop work₀ from n to name left right trims end count₀ i₀ work count i = n - i

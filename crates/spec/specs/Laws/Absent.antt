@@ -9,6 +9,7 @@ use Prim.Native.Nat.{ℕ, zero, suc}
 use lib.ListN.{length}
 use Rattle.spec.specs.Symbols.{bytes, starts, find}
 use Rattle.spec.specs.Sweep.{replacing, replace}
+use Rattle.spec.specs.Closing.{overQuotes}
 use Rattle.spec.specs.Calls.{callAt, rewritten, calling, casesOnce, convertCases, attachOnce, attachTimes, convertAttach, binom}
 use Rattle.spec.specs.Quotes.{quotes, convertTextQuotes}
 use Rattle.spec.specs.Words.{parenToBrace}
@@ -25,18 +26,18 @@ pub replace-absent : (pattern fresh s : List ℕ) → find pattern s ≡ none �
 unfolding replace
 replace-absent pattern fresh s e = sweep-absent (replacing-waits pattern fresh) s 0 e
 
-pub no-call : (name s : List ℕ) → starts name s ≡ false → callAt name s ≡ none
+pub no-call : (seen : List ℕ → List ℕ) (name s : List ℕ) → starts name s ≡ false → callAt seen name s ≡ none
 unfolding callAt
-no-call name s e = rw (e, callAt)
+no-call seen name s e = rw (e, callAt)
 
 pub no-bare : (s : List ℕ) → starts (bytes "lr(") s ≡ false → bareDelimiter s ≡ false
-no-bare s e = rw (no-call (bytes "lr(") s e, bareDelimiter)
+no-bare s e = rw (no-call (λ s. s) (bytes "lr(") s e, bareDelimiter)
 
-pub calling-waits : (name : List ℕ) (write : List ℕ → List ℕ) → Waits name (calling name write)
-calling-waits name write = record { copies = λ before s e. ap (rewritten name write s) (no-call name s e) }
+pub calling-waits : (seen : List ℕ → List ℕ) (name : List ℕ) (write : List ℕ → List ℕ) → Waits name (calling seen name write)
+calling-waits seen name write = record { copies = λ before s e. ap (rewritten name write s) (no-call seen name s e) }
 
 pub binom-waits : Waits (bytes "binom(") binom
-binom-waits = record { copies = λ before s e. rw (no-call (bytes "binom(") s e) }
+binom-waits = record { copies = λ before s e. rw (no-call overQuotes (bytes "binom(") s e) }
 
 pub paren-to-brace-waits : (pattern left : List ℕ) → Waits pattern (parenToBrace pattern left)
 paren-to-brace-waits pattern left = record { copies = λ before s e. rw (e, parenToBrace) }

@@ -11,7 +11,7 @@ use lib.ListN.{length, take, drop, take-append-drop}
 use lib.Seq.{drop-drop}
 use Rattle.spec.specs.Symbols.{bytes, is, _andThen_, blank, empty, until, inside, dropWhile, dropWhileEnd, trim, starts, find}
 use Rattle.spec.specs.Sweep.{kept, taken, sweep, replacing, replace}
-use Rattle.spec.specs.Closing.{findMatchingParen, unescapedBehind, findUnescapedComma}
+use Rattle.spec.specs.Closing.{findMatchingParen, unescapedBehind, findUnescapedComma, overQuotes}
 use Rattle.spec.specs.Calls.{callAt, callLength, spliced, bottom, subscript, latexUnderset, latexAttach, attachOnce, attachTimes, convertAttach}
 use Rattle.spec.specs.Laws.Symbols.{starts-take, Tail, tail-here, tail-more, find-tail}
 
@@ -157,9 +157,9 @@ parens-latex inner fresh e = go (findUnescapedComma inner) refl e
     go (some rest) f e = written rest (empty (subscript rest)) (comma-tail 0 inner rest f) e
 
 -- ---- one rewriting
-parens-call : (at inner : List ℕ) → callAt (bytes "attach(") at ≡ some inner → parens inner + parens (drop (callLength (bytes "attach(") inner) at) < parens at
+parens-call : (at inner : List ℕ) → callAt overQuotes (bytes "attach(") at ≡ some inner → parens inner + parens (drop (callLength (bytes "attach(") inner) at) < parens at
 unfolding callAt parens
-parens-call at inner e = go (starts (bytes "attach(") at) refl (findMatchingParen (drop 7 at)) e
+parens-call at inner e = go (starts (bytes "attach(") at) refl (findMatchingParen (overQuotes (drop 7 at))) e
   where
     go : (b : Bool) → starts (bytes "attach(") at ≡ b → (o : Option (List ℕ))
         → _≡_ {A = Option (List ℕ)} (elim b [ true ↦ o andThen λ behind. some (inside (drop 7 at) behind) | false ↦ none ]) (some inner)
@@ -181,7 +181,7 @@ parens-once : (s t : List ℕ) → attachOnce s ≡ some t → parens t < parens
 unfolding attachOnce
 parens-once s t e = from (find (bytes "attach(") s) refl e
   where
-    written : (at inner : List ℕ) → Tail s at → callAt (bytes "attach(") at ≡ some inner → (o : Option (List ℕ)) → latexAttach inner ≡ o
+    written : (at inner : List ℕ) → Tail s at → callAt overQuotes (bytes "attach(") at ≡ some inner → (o : Option (List ℕ)) → latexAttach inner ≡ o
         → (o andThen λ fresh. some (spliced s at (bytes "attach(") inner fresh)) ≡ some t → parens t < parens s
     written at inner tail call none f e = let z : _≡_ {A = ℕ} 0 1 = cc in absurd (omega arith)
     written at inner tail call (some fresh) f e =
@@ -191,16 +191,16 @@ parens-once s t e = from (find (bytes "attach(") s) refl e
         let d = parens-latex inner fresh f in let g = parens-call at inner call in let h = parens-tail tail in
         omega arith
 
-    called : (at : List ℕ) → Tail s at → (o : Option (List ℕ)) → callAt (bytes "attach(") at ≡ o
+    called : (at : List ℕ) → Tail s at → (o : Option (List ℕ)) → callAt overQuotes (bytes "attach(") at ≡ o
         → (o andThen λ inner. latexAttach inner andThen λ fresh. some (spliced s at (bytes "attach(") inner fresh)) ≡ some t → parens t < parens s
     called at tail none f e = let z : _≡_ {A = ℕ} 0 1 = cc in absurd (omega arith)
     called at tail (some inner) f e = written at inner tail f (latexAttach inner) refl e
 
     from : (o : Option (List ℕ)) → find (bytes "attach(") s ≡ o
-        → (o andThen λ at. callAt (bytes "attach(") at andThen λ inner. latexAttach inner andThen λ fresh. some (spliced s at (bytes "attach(") inner fresh)) ≡ some t
+        → (o andThen λ at. callAt overQuotes (bytes "attach(") at andThen λ inner. latexAttach inner andThen λ fresh. some (spliced s at (bytes "attach(") inner fresh)) ≡ some t
         → parens t < parens s
     from none f e = let z : _≡_ {A = ℕ} 0 1 = cc in absurd (omega arith)
-    from (some at) f e = called at (find-tail (bytes "attach(") s at f) (callAt (bytes "attach(") at) refl e
+    from (some at) f e = called at (find-tail (bytes "attach(") s at f) (callAt overQuotes (bytes "attach(") at) refl e
 
 -- ---- all of them
 times-end : (k : ℕ) (s : List ℕ) → parens s ≤ k → attachOnce (attachTimes k s) ≡ none

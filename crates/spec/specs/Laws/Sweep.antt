@@ -2,6 +2,7 @@
 --     swept          the rest of a sweep, from place i on
 --     swept-copied   some symbols are copied, and then the rest of it
 --     sweep-same     two rules that agree at every place give the same text
+--     sweep-reached  two rules that agree wherever a test does not hold give the same text, unless the sweep comes to a place where it does
 --     sweep-absent   a rule that copies wherever its pattern does not start leaves a text without the pattern as it is
 --     reached-absent and comes to no place where a test holds that waits for the pattern too
 -- Assumes nothing.
@@ -17,6 +18,7 @@ use lib.Seq.{drop-drop, getD-drop}
 use Rattle.spec.specs.Symbols.{starts, find}
 use Rattle.spec.specs.Sweep.{Turn, Rule, kept, sweep, reached}
 use Rattle.spec.specs.Laws.Symbols.{drop-step, find-nowhere}
+use Rattle.spec.specs.Laws.Booleans.{or-neither}
 
 unfoldable pub swept : Rule → List ℕ → ℕ → List ℕ
 swept rule s i = sweep rule (getD (0 ∷ s) i 0) 0 (drop i s)
@@ -72,6 +74,18 @@ sweep-same r r′ n same (x ∷ s) before zero h =
     ap₂ (λ (t : Turn) (rest : List ℕ). t .fresh ++ rest) (same before (x ∷ s) h) (sweep-same r r′ n same s x (r before (x ∷ s) .more) (omega arith))
     ∙ ap (λ (t : Turn). r′ before (x ∷ s) .fresh ++ sweep r′ x (t .more) s) (same before (x ∷ s) h)
 sweep-same r r′ n same (x ∷ s) before (suc skip) h = sweep-same r r′ n same s x skip (omega arith)
+
+pub sweep-reached :
+    (test : List ℕ → Bool) (r r′ : Rule) → ((before : ℕ) (s : List ℕ) → test s ≡ false → r before s ≡ r′ before s)
+    → (s : List ℕ) (before skip : ℕ) → reached test r before skip s ≡ false → sweep r before skip s ≡ sweep r′ before skip s
+unfolding sweep reached
+sweep-reached test r r′ same [] before skip e = refl
+sweep-reached test r r′ same (x ∷ s) before zero e =
+    let both = or-neither (test (x ∷ s)) (reached test r x (r before (x ∷ s) .more) s) e in
+    let here = same before (x ∷ s) (both .0) in
+    ap₂ (λ (t : Turn) (rest : List ℕ). t .fresh ++ rest) here (sweep-reached test r r′ same s x (r before (x ∷ s) .more) (both .1))
+    ∙ ap (λ (t : Turn). r′ before (x ∷ s) .fresh ++ sweep r′ x (t .more) s) here
+sweep-reached test r r′ same (x ∷ s) before (suc skip) e = sweep-reached test r r′ same s x skip e
 
 -- the rule copies wherever the pattern does not start
 pub record Waits (pattern : List ℕ) (rule : Rule) : Type 0 where

@@ -1,0 +1,2 @@
+-- What the contracts of `call_quotes` cite.
+pub mod Quotes
