@@ -1,3 +1,4 @@
 -- What the contracts of `call_commas` cite.
 pub mod Commas
+pub mod Searched
 pub mod Split
