@@ -8,9 +8,9 @@ use lib.ListN.{take}
 use Rattle.spec.specs.Grammar.{Plain}
 use Rattle.spec.specs.Pipeline.{Call}
 use Rattle.plain_printing.specs.Calls.{empty-table, calls-apart}
-use Rattle.math_conv.specs.Answer.{meaning}
-use Rattle.math_conv.specs.declared.Answer.{Answer}
-use Rattle.math_conv.specs.declared.Answer.the-variants.{Done}
+use Rattle.entry_ends.specs.Answer.{meaning}
+use Rattle.entry_ends.specs.declared.Answer.{Answer}
+use Rattle.entry_ends.specs.declared.Answer.the-variants.{Done}
 
 pub outputs-apart :
     {formula work output work′ output′ formula₁ work₁ output₁ work₁′ output₁′ : List ℕ} {answer answer₁ : Answer} {n m : ℕ}

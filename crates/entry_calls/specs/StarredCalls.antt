@@ -10,14 +10,14 @@ use lib.Dec.{ltb}
 use lib.ListN.{length, drop, replicate}
 use borrow.Author.Tests.{le-ltb}
 use Rattle.spec.specs.Symbols.{foreign, any}
-use Rattle.spec.specs.Result.{Result, passed, refused, _then_}
+use Rattle.spec.specs.Result.{passed, _then_}
 use Rattle.spec.specs.Rows.{Row}
 use Rattle.spec.specs.Pipeline.{mostFormula, leastWork, definitionsOr, admitted, typstToLatex, fitting, converted, answerOf, outputAfter, workAfter, Call}
 use Rattle.spec.specs.Starred.{starred, starred-hold}
 use Rattle.plain_printing.specs.Calls.{empty-table}
-use Rattle.math_conv.specs.Answer.{meaning}
-use Rattle.math_conv.specs.declared.Answer.{Answer}
-use Rattle.math_conv.specs.declared.Answer.the-variants.{Done, Refused}
+use Rattle.entry_ends.specs.Answer.{meaning}
+use Rattle.entry_ends.specs.declared.Answer.{Answer}
+use Rattle.entry_ends.specs.declared.Answer.the-variants.{Done, Refused}
 
 pub record Gives (latex work output : List ℕ) (answer : Answer) (work′ output′ : List ℕ) : Type 0 where
   pub answers : answer ≡ Done (length latex)

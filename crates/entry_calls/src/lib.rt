@@ -10,7 +10,7 @@ ghost use Prim.Native.Nat.{ℕ};
 ghost use lib.ListN.{take};
 ghost use Rattle.spec.specs.Grammar.{Plain};
 ghost use Rattle.spec.specs.Pipeline.{Call};
-ghost use Rattle.math_conv.specs.Answer.{meaning};
+ghost use Rattle.entry_ends.specs.Answer.{meaning};
 
 pub struct Pair {
     pub first: Answer,

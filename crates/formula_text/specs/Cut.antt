@@ -11,7 +11,6 @@ use lib.Dec.{ltb}
 use lib.ListN.{length, take, length-take}
 use lib.Seq.{take-all}
 use borrow.Author.Tests.{lt-ltb, ltb-true, ltb-false}
-use Rattle.spec.specs.Symbols.{foreign, any}
 use Rattle.spec.specs.Result.{Result, refused, _then_}
 use Rattle.spec.specs.Table.{Definition, definitions, mostBytes}
 use Rattle.spec.specs.Program.{firstLine, formulaOf}

@@ -5,8 +5,8 @@
 --     prints-within                        the text lies within the buffer
 use mathlib.Core.Path.{_≡_, refl, sym, ap, ap₂, _∙_, subst}
 use mathlib.Core.Bool.{Bool}
-use mathlib.Core.List.{List, [], _++_}
-use mathlib.Core.Option.{Option, none, some, Option·getD}
+use mathlib.Core.List.{List}
+use mathlib.Core.Option.{Option, none, some}
 use Prim.Native.Nat.{ℕ, _≤_}
 use native.Mathlib.Omega.{arith}
 use lib.ListN.{length, take, drop, replicate, length-append, length-take, length-replicate}
@@ -14,9 +14,9 @@ use lib.Seq.{take-all, take-append-seam}
 use Rattle.spec.specs.Symbols.{bytes}
 use Rattle.spec.specs.Result.{Result, passed, refused, _then_}
 use Rattle.spec.specs.Pipeline.{leastWork, definitionsOr, admitted, typstToLatex, fitting, converted, answerOf, outputAfter, workAfter, Call}
-use Rattle.spec.specs.Program.{firstLine, formulaOf, mostOutput, reported, answered, printed, bufferAfter, Read, Run, Prints}
-use Rattle.formula_text.specs.Cut.{pastFormula, pastInput, pastTable, first-cut, formula-cut, definitions-cut, converted-cut}
-use Rattle.formula_text.specs.Standing.{Stands}
+use Rattle.spec.specs.Program.{firstLine, formulaOf, mostOutput, reported, answered, printed, bufferAfter, Read, Prints}
+use Rattle.formula_text.specs.Cut.{pastFormula, pastInput, pastTable, first-cut, formula-cut, converted-cut}
+use Rattle.formula_report.specs.Standing.{Stands}
 
 -- the answer of a call with the program's buffers, as a text at the start of another
 pub record Converts (formula table : List ℕ) (display : Bool) (work output w : List ℕ) (count : ℕ) (work′ output′ w′ : List ℕ) : Type 0 where

@@ -1,8 +1,5 @@
 // What the program `formula` prints, from what it has read.
-mod first_line;
-mod report;
-
-use first_line::FirstLine;
+use formula_input::FirstLine;
 use math_conv::Answer;
 ghost use mathlib.Core.Path.{_≡_};
 ghost use mathlib.Core.List.{List};
@@ -10,8 +7,8 @@ ghost use Prim.Native.Nat.{ℕ, _≤_};
 ghost use lib.ListN.{length, take};
 ghost use Rattle.spec.specs.Pipeline.{leastWork};
 ghost use Rattle.spec.specs.Program.{firstLine, mostOutput, Read, Prints};
-ghost use Rattle.formula_text.specs.Input.{isAsked};
-ghost use Rattle.formula_text.specs.Standing.{mostText};
+ghost use Rattle.formula_input.specs.Input.{isAsked};
+ghost use Rattle.formula_report.specs.Standing.{mostText};
 ghost use Rattle.formula_text.specs.Runs.{Converts};
 
 // One byte more than `d` or `i`, a newline and the longest formula.
@@ -43,12 +40,12 @@ pub fn answer(
     ensures { λ r. ⌜ r ≤ length (now (text .exit)) ⌝ }
 {
     let read = front(input, n);
-    match first_line::first_line(read) {
+    match formula_input::first_line(read) {
         FirstLine::Display(display) => {
-            let formula = first_line::formula(read);
+            let formula = formula_input::formula(read);
             convert(formula, front(table, m), display, work, output, text)
         }
-        FirstLine::Neither => report::put_neither(text),
+        FirstLine::Neither => formula_report::put_neither(text),
     }
 }
 
@@ -56,7 +53,7 @@ pub fn answer(
 pub fn wants_table(input: &[u8; INPUT], n: usize) -> bool
     ensures { λ r. ⌜ ((whole : List ℕ) → Read (now (input .entry)) n whole → r ≡ isAsked (firstLine whole)) ⌝ }
 {
-    match first_line::first_line(front(input, n)) {
+    match formula_input::first_line(front(input, n)) {
         FirstLine::Display(_) => true,
         FirstLine::Neither => false,
     }
@@ -87,7 +84,7 @@ fn convert(
     ensures { λ r. ⌜ Converts (now (formula .entry)) (now (table .entry)) display (now (work .entry)) (now (output .entry)) (now (text .entry)) r (now (work .exit)) (now (output .exit)) (now (text .exit)) ⌝ }
 {
     match math_conv::typst_to_latex(formula, table, display, work, output) {
-        Answer::Done(n) => report::put_latex(text, &output[..n]),
-        Answer::Refused(why) => report::put_refusal(text, why),
+        Answer::Done(n) => formula_report::put_latex(text, &output[..n]),
+        Answer::Refused(why) => formula_report::put_refusal(text, why),
     }
 }

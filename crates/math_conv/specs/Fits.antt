@@ -10,9 +10,9 @@ use lib.ListN.{length}
 use borrow.Author.Tests.{ltb-false}
 use Rattle.spec.specs.Result.{Result, passed, refused, _then_}
 use Rattle.spec.specs.Pipeline.{definitionsOr, admitted, typstToLatex, fitting, converted, answerOf, Call}
-use Rattle.math_conv.specs.declared.Answer.{Answer}
-use Rattle.math_conv.specs.declared.Answer.the-variants.{Done}
-use Rattle.math_conv.specs.Answer.{meaning}
+use Rattle.entry_ends.specs.declared.Answer.{Answer}
+use Rattle.entry_ends.specs.declared.Answer.the-variants.{Done}
+use Rattle.entry_ends.specs.Answer.{meaning}
 
 fitting-fits : (output : List ℕ) {n : ℕ} (r : Result (List ℕ)) → passed n ≡ answerOf (r then fitting output) → n ≤ length output
 fitting-fits output (refused k) e = absurd (let z : _≡_ {A = ℕ} 0 1 = cc in omega arith)

@@ -1,4 +1,3 @@
--- What the entry's contract cites.
-pub mod Answer
+-- What the entry's contract cites, and laws about it.
 pub mod Steps
 pub mod Fits

@@ -1,22 +1,14 @@
 // The entry: a formula and a definition table in, LaTeX out, over lent buffers.
-mod admission;
-mod output;
-
-use admission::admit;
-use output::put_out;
+pub use entry_ends::Answer;
+use entry_ends::admit;
+use entry_ends::put_out;
 use stages::convert;
 use text::Refusal;
 ghost use Rattle.spec.specs.Pipeline.{Call};
-ghost use Rattle.math_conv.specs.Answer.{meaning};
+ghost use Rattle.entry_ends.specs.Answer.{meaning};
 
 // Number 4: the least length of the work buffer.
 pub const LEAST_WORK: usize = 32_768;
-
-// The byte count of the LaTeX, or why there is none.
-pub enum Answer {
-    Done(usize),
-    Refused(Refusal),
-}
 
 // The Rust's `typst_to_latex`, with the refusals of document 01 around it. The LaTeX comes to stand at the start of `output`. All of `work` is
 // zero afterwards, unless it is too narrow.

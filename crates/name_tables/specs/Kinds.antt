@@ -2,7 +2,7 @@
 --     rowRule, rowMatch, boundsOf     the definitions' rule of a row and its match, and the code's
 --     sizedRows             the rows of a table in order, each a stage, while blocks are held or not
 -- Assumes nothing.
-use mathlib.Core.Path.{_≡_, refl, sym, ap, _∙_, subst, subst₂}
+use mathlib.Core.Path.{_≡_, refl, ap, _∙_, subst, subst₂}
 use mathlib.Core.Bool.{Bool, true, false, cond, _||_}
 use mathlib.Core.List.{List, [], _∷_}
 use Prim.Native.Nat.{ℕ, _+_, _-_, _*_, _≤_, _<_}

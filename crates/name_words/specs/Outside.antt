@@ -2,7 +2,7 @@
 --     rows-held       a table's stages on a text with marks are those on what is held
 --     words-held      the same of both tables
 -- Assumes nothing.
-use mathlib.Core.Path.{_≡_, refl, sym, ap, _∙_}
+use mathlib.Core.Path.{_≡_, refl, ap, _∙_}
 use mathlib.Core.Bool.{Bool, true, false, cond}
 use mathlib.Core.List.{List, [], _∷_}
 use Prim.Native.Nat.{ℕ, _+_}
@@ -11,7 +11,7 @@ use lib.ListN.{length}
 use Rattle.spec.specs.Sweep.{Rule, sweep}
 use Rattle.spec.specs.Result.{Result, passed, refused, _then_, mostSymbols}
 use Rattle.spec.specs.Rows.{Row, greekLetters, wordMappings}
-use Rattle.spec.specs.Held.{Held, withText, heldStage, holdBoth, putBack}
+use Rattle.spec.specs.Held.{Held, withText, holdBoth, putBack}
 use Rattle.spec.specs.Words.{heldRows, convertWords}
 use Rattle.spec.specs.Laws.Booleans.{and-left, and-right}
 use Rattle.text.specs.Stage.{staged-then}
@@ -19,7 +19,7 @@ use Rattle.text.specs.declared.Progress.{Progress}
 use Rattle.held_laws.specs.WellMade.{WellMade}
 use Rattle.held_laws.specs.Rewriting.{Between, sweep-made}
 use Rattle.held_laws.specs.Instances.{fineRow, fineRows, greek-fine, words-fine, greek-between, word-between, rows-made, refused-not}
-use Rattle.name_entry.specs.Sized.{sized, StagedWithin}
+use Rattle.name_entry.specs.Sized.{StagedWithin}
 use Rattle.held_stages.specs.Outside.{Extra}
 use Rattle.held_stages.specs.Carried.{held-sized}
 use Rattle.name_tables.specs.declared.NameKind.the-variants.{Greek, Word}

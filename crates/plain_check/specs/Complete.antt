@@ -10,7 +10,7 @@ use lib.ListN.{length}
 use lib.Seq.{drop-at, getD-at}
 use borrow.Author.Tests.{eqb-false, ne-eqb}
 use Rattle.spec.specs.Symbols.{bytes, alnum}
-use Rattle.spec.specs.Grammar.{Atom, Sum, product, Product, factor, beside, Factor, scripted, fraction, group, Operand, atom, enclosed, Script, bare, symbol, inner, scriptless, slashlessOperand, proper, properProduct, properFactor, properOperand, properScript, atomText, text, productText, factorText, operandText, scriptText, atoms}
+use Rattle.spec.specs.Grammar.{Atom, Sum, product, Product, factor, beside, Factor, scripted, fraction, group, Operand, atom, enclosed, Script, bare, symbol, inner, scriptless, slashlessOperand, proper, properProduct, properFactor, properOperand, properScript, atomText, text, productText, factorText, operandText, scriptText}
 use Rattle.spec.specs.Grammar
 use Rattle.spec.specs.Laws.Booleans.{and-left, and-right}
 use Rattle.plain_check.specs.declared.Part.{Part}

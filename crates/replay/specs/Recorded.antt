@@ -25,9 +25,9 @@ use Rattle.text.specs.declared.Refusal.the-variants.{
   BarredSolidus,
   ShortOutput,
 }
-use Rattle.math_conv.specs.declared.Answer.{Answer}
-use Rattle.math_conv.specs.declared.Answer.the-variants.{Done, Refused}
-use Rattle.math_conv.specs.Answer.{meaning}
+use Rattle.entry_ends.specs.declared.Answer.{Answer}
+use Rattle.entry_ends.specs.declared.Answer.the-variants.{Done, Refused}
+use Rattle.entry_ends.specs.Answer.{meaning}
 use Rattle.replay.specs.declared.calls.Difference.{Difference}
 use Rattle.replay.specs.declared.calls.Difference.the-variants.{Nothing, Number, Count, Bytes, Output, Work}
 

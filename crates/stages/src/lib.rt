@@ -29,8 +29,8 @@ pub fn convert(work: &mut [u8], text: Progress, table: &[u8], display: bool) -> 
     let t = quotes::convert_text_quotes(work, t);
     let t = apply_definitions_outside_text(work, t, table);
     let t = convert_syntax(work, t, display);
-    let t = layout::convert_alignment(work, t);
-    layout::drop_thin_space_after_commands(work, t)
+    let t = alignment::convert_alignment(work, t);
+    thin_spaces::drop_thin_space_after_commands(work, t)
 }
 
 // The Rust's `convert_syntax`.

@@ -3,7 +3,7 @@ use mathlib.Core.Path.{_≡_, refl, sym, ap, _∙_}
 use lib.ListN.{take}
 use borrow.Author.Needs.{needs}
 use Rattle.spec.specs.Program.{firstLine}
-use Rattle.formula_text.specs.Input.{asked}
+use Rattle.formula_input.specs.Input.{asked}
 use Rattle.formula_text.specs.Runs.{prints-neither, prints-converted, prints-within}
 use Rattle.formula_text.proofs.answer.Statement.{statement}
 use Rattle.formula_text.proofs.answer.Tie as tie

@@ -4,7 +4,7 @@ use Prim.Native.Nat.{_≤_}
 use native.Mathlib.Omega.{arith}
 use lib.ListN.{length-take}
 use Rattle.spec.specs.Program.{mostOutput}
-use Rattle.math_conv.specs.Answer.{meaning}
+use Rattle.entry_ends.specs.Answer.{meaning}
 use Rattle.math_conv.specs.Fits.{call-count-fits}
 use Rattle.formula_text.specs.Runs.{converts-done, converts-refused}
 use borrow.Author.Needs.{needs}

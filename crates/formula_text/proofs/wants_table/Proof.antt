@@ -2,10 +2,9 @@
 use mathlib.Core.Path.{_≡_, sym, ap, _∙_}
 use mathlib.Core.List.{List}
 use Prim.Native.Nat.{ℕ}
-use native.Mathlib.Omega.{arith}
 use borrow.Author.Needs.{needs}
 use Rattle.spec.specs.Program.{firstLine, Read}
-use Rattle.formula_text.specs.Input.{asked, isAsked}
+use Rattle.formula_input.specs.Input.{asked, isAsked}
 use Rattle.formula_text.specs.Runs.{line-read}
 use Rattle.formula_text.proofs.wants_table.Statement.{statement}
 use Rattle.formula_text.proofs.wants_table.Tie as tie

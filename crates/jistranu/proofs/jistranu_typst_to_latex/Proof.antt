@@ -1,6 +1,6 @@
 -- `jistranu::jistranu_typst_to_latex` meets its contract, since the entry does. Assumes nothing.
 use mathlib.Core.Path.{refl, ap, _∙_}
-use Rattle.math_conv.specs.Answer.{meaning}
+use Rattle.entry_ends.specs.Answer.{meaning}
 use Rattle.jistranu.specs.Codes.{call-answered, refusal-coded}
 use borrow.Author.Needs.{needs}
 use Rattle.jistranu.proofs.jistranu_typst_to_latex.Statement.{statement}

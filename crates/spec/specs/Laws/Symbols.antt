@@ -11,7 +11,7 @@ use lib.Dec.{eqb, leb}
 use lib.ListN.{length, getD, take, drop, length-append, length-drop, length-reverse, take-append-drop, drop-of-length-le}
 use lib.Seq.{drop-cons, take-at, take-append-seam}
 use borrow.Author.Tests.{leb-true, eqb-true, eq-eqb, ne-eqb}
-use Rattle.spec.specs.Symbols.{digit, isSome, head, past, all, any, until, dropWhile, starts, contains, find}
+use Rattle.spec.specs.Symbols.{digit, isSome, head, past, any, until, dropWhile, starts, contains, find}
 use Rattle.spec.specs.Laws.Booleans.{untrue, and-left, and-right, and-parts}
 
 -- ---- digits

@@ -1,7 +1,7 @@
 -- `stages::convert_syntax` meets its contract: each stage takes the text that the one before it gave.
 -- Assumes nothing.
 use Rattle.spec.specs.Pipeline.{convertSyntax}
-use Rattle.text.specs.Stage.{answered-ready, answered-then}
+use Rattle.text.specs.Stage.{answered-then}
 use Rattle.stage_laws.specs.Stages.{before-words-passes}
 use Rattle.stages.specs.Chain.{staged-ready, stages-before-words, unmarked-after}
 use borrow.Author.Needs.{needs}

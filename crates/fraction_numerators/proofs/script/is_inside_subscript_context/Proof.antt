@@ -3,7 +3,6 @@ use Rattle.fraction_numerators.specs.Script.{script-opens, script-bare, 
 use Rattle.text_symbols.specs.Places.{before, before-step, before-none}
 use Rattle.text_closing.specs.Closing.{opener-kept, closer-kept, depth-stepped, depth-more}
 use Rattle.spec.specs.Fractions.{isInsideSubscriptContext}
-use Rattle.text.specs.Sweep.{restFrom}
 use Prim.Native.Nat.{_+_, _-_, _≤_, _<_}
 use Prim.Native.Char.{code}
 use borrow.Author.Needs.{needs}

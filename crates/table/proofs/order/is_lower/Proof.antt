@@ -3,7 +3,6 @@ use mathlib.Core.Path.{_≡_, refl, sym, _∙_}
 use Prim.Native.Nat.{_-_}
 use native.Mathlib.Omega.{arith}
 use lib.ListN.{length, drop}
-use borrow.Author.Needs.{needs}
 use Rattle.spec.specs.Table.{lower}
 use Rattle.table.specs.Names.{lower-end, lower-short, lower-here, higher-here, lower-on}
 use Rattle.table.proofs.order.is_lower.Statement.{statement}

@@ -1,0 +1,27 @@
+-- What an answer means, and what the steps of a call ensure. Assumes nothing.
+--     meaning  an answer in document 01's numbers
+--     Admits   the formula stands in the work buffer, or a number refuses it
+--     PutOut   the finished text stands in the output, or a number refuses the call
+use mathlib.Core.Path.{_≡_}
+use mathlib.Core.List.{List}
+use Prim.Native.Nat.{ℕ}
+use lib.ListN.{length}
+use Rattle.spec.specs.Result.{Result, passed, refused, _then_}
+use Rattle.spec.specs.Pipeline.{admitted, fitting, answerOf, outputAfter}
+use Rattle.text.specs.Stage.{number, shown, Ready}
+use Rattle.text.specs.declared.Progress.{Progress}
+use Rattle.entry_ends.specs.declared.Answer.{Answer}
+use Rattle.entry_ends.specs.declared.Answer.the-variants.{Done, Refused}
+
+abbrev pub meaning : Answer → Result ℕ
+meaning (Done n) = passed n
+meaning (Refused why) = refused (number why)
+
+pub record Admits (formula table w w′ : List ℕ) (p : Progress) : Type 0 where
+  pub shows : shown p w′ ≡ admitted formula table w
+  pub ready : Ready w′ p
+  pub long : length w′ ≡ length w
+
+pub record PutOut (w : List ℕ) (p : Progress) (answer : Answer) (output output′ : List ℕ) : Type 0 where
+  pub answers : meaning answer ≡ answerOf (shown p w then fitting output)
+  pub writes : output′ ≡ outputAfter (shown p w then fitting output) output

@@ -1,0 +1,36 @@
+// Numbers 2, 1 and 3: whether a formula and its table are admitted.
+use super::output::copy_over;
+use text::Progress;
+use text::Refusal;
+use text_symbols::Class;
+ghost use mathlib.Core.Path.{_≡_};
+ghost use Prim.Native.Nat.{_≤_};
+ghost use lib.ListN.{length};
+ghost use Rattle.spec.specs.Pipeline.{leastWork};
+ghost use Rattle.spec.specs.Symbols.{foreign, any};
+ghost use Rattle.entry_ends.specs.Answer.{Admits};
+
+// The formula as the first text of the work buffer, or its refusal.
+pub fn admit(work: &mut [u8], formula: &[u8], table: &[u8]) -> Progress
+    requires { ⌜ leastWork ≤ length (now work) ⌝ }
+    ensures { λ r. ⌜ Admits (now (formula .entry)) (now (table .entry)) (now (work .entry)) (now (work .exit)) r ⌝ }
+{
+    if text::MOST_FORMULA < formula.len() {
+        return Progress::Refused(Refusal::LongFormula);
+    }
+    if has_foreign(formula) {
+        return Progress::Refused(Refusal::ForeignByte);
+    }
+    if table_faults::is_faulty(table) {
+        return Progress::Refused(Refusal::FaultyTable);
+    }
+    copy_over(work, formula);
+    Progress::Text(0, formula.len())
+}
+
+// Number 1: whether a byte of the formula is foreign.
+fn has_foreign(formula: &[u8]) -> bool
+    ensures { λ r. ⌜ r ≡ any foreign (now (formula .entry)) ⌝ }
+{
+    !text_symbols::all_in(formula, Class::Formula)
+}

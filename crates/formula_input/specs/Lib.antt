@@ -1,0 +1,2 @@
+-- What the contracts of `formula_input` cite.
+pub mod Input

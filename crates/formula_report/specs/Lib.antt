@@ -1,0 +1,4 @@
+-- What the contracts cite, and laws about it.
+pub mod Decimal
+pub mod Standing
+pub mod Reports

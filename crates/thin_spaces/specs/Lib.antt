@@ -1,0 +1,2 @@
+-- What the contracts of `thin_spaces` cite.
+pub mod Thin
