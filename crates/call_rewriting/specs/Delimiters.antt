@@ -17,7 +17,7 @@ use Rattle.spec.specs.Calls.{callAt, rewritten, calling}
 use Rattle.spec.specs.Laws.Absent.{no-call}
 use Rattle.text_symbols.specs.Parts.{part, length-part}
 use Rattle.text_search.specs.Search.{Closes, inside-alike}
-use Rattle.text.specs.Writer.{Appended}
+use Rattle.text.specs.Writer.{mostWritten, Appended}
 use Rattle.text.specs.Sweep.{Sweeping, restFrom, source-read, rest-read, symbols-read, sweeping-more, sweeping-kept}
 use Rattle.text_symbols.specs.Trim.{Narrowed, spanned}
 use Rattle.text_symbols.specs.declared.Span.{Span}
@@ -94,7 +94,7 @@ module _
 
     module _ {w′ : List ℕ} {count′ : ℕ} where
       pub called-here :
-          {k : ℕ} {bs : List ℕ} → r ≡ At k → bs ≡ write (take k (drop (i + length name) (part from n w₀))) → length bs ≤ 1024 * (1 + k)
+          {k : ℕ} {bs : List ℕ} → r ≡ At k → bs ≡ write (take k (drop (i + length name) (part from n w₀))) → length bs ≤ mostWritten * (1 + k)
           → Appended w w′ to cap count count′ bs
           → Sweeping (calling seen name write) w₀ w′ from n to cap count₀ count′ (i + length name + k + 1)
       called-here {k} {bs} e same few a =
@@ -129,7 +129,7 @@ module _
         ∙ ap (λ m. argument trims (take m (drop start (part from n w₀)))) e)
 
 -- a call's delimiters are few beside the symbols of the call
-pub written-few : {name left right : List ℕ} → CallTextsFit name left right → (inner : List ℕ) (k : ℕ) → length inner ≤ k → length (left ++ inner ++ right) ≤ 1024 * (1 + k)
+pub written-few : {name left right : List ℕ} → CallTextsFit name left right → (inner : List ℕ) (k : ℕ) → length inner ≤ k → length (left ++ inner ++ right) ≤ mostWritten * (1 + k)
 written-few {left = left} {right} fair inner k h =
     let l = fair .left-short in let r = fair .right-short in
     simp length-append (omega arith)

@@ -22,7 +22,7 @@ use Rattle.spec.specs.Laws.Sweep.{Waits, sweep-absent, reached-absent}
 use Rattle.spec.specs.Laws.Absent.{no-bare, calling-waits}
 use Rattle.text_symbols.specs.Parts.{part, length-part, sub-part, whole-part}
 use Rattle.text.specs.Stage.{grown-short}
-use Rattle.text.specs.Writer.{Appended}
+use Rattle.text.specs.Writer.{mostWritten, Appended}
 use Rattle.text.specs.Sweep.{Sweeping, restFrom, symbols-read}
 use Rattle.text_search.specs.declared.Found.{Found}
 use Rattle.text_search.specs.declared.Found.the-variants.{At, Nothing}
@@ -87,7 +87,7 @@ sized-by-first {w} {w′} {to} {count} {count′} inside k m first code {a} {b} 
     appended
 
 -- what is written is little beside the symbols of the call
-pub sized-few : (inner : List ℕ) (x k : ℕ) → length inner ≤ k → length (sizedBy inner (delimiters x)) ≤ 1024 * (1 + k)
+pub sized-few : (inner : List ℕ) (x k : ℕ) → length inner ≤ k → length (sizedBy inner (delimiters x)) ≤ mostWritten * (1 + k)
 sized-few inner x k bound = go (is "(" x) refl (is "|" x) refl (is "[" x) refl (is "{" x) refl
   where
     m : List ℕ
@@ -96,10 +96,10 @@ sized-few inner x k bound = go (is "(" x) refl (is "|" x) refl (is "[" x) refl (
     short : length m ≤ k
     short = let l = length-take (pred (pred (length inner))) (past inner) in omega arith
 
-    framed : (a b : List ℕ) → length a ≤ 64 → length b ≤ 64 → length (a ++ m ++ b) ≤ 1024 * (1 + k)
+    framed : (a b : List ℕ) → length a ≤ 64 → length b ≤ 64 → length (a ++ m ++ b) ≤ mostWritten * (1 + k)
     framed a b g l = let t = short in simp length-append (omega arith)
 
-    go : (a : Bool) → is "(" x ≡ a → (b : Bool) → is "|" x ≡ b → (c : Bool) → is "[" x ≡ c → (d : Bool) → is "{" x ≡ d → length (sizedBy inner (delimiters x)) ≤ 1024 * (1 + k)
+    go : (a : Bool) → is "(" x ≡ a → (b : Bool) → is "|" x ≡ b → (c : Bool) → is "[" x ≡ c → (d : Bool) → is "{" x ≡ d → length (sizedBy inner (delimiters x)) ≤ mostWritten * (1 + k)
     go true e b f c g d h = rw (e, delimiters) (framed (bytes "\\left(") (bytes "\\right)") (omega arith) (omega arith))
     go false e true f c g d h = rw (e, f, delimiters) (framed (bytes "\\left\\lvert ") (bytes " \\right\\rvert") (omega arith) (omega arith))
     go false e false f true g d h = rw (e, f, g, delimiters) (framed (bytes "\\left[") (bytes "\\right]") (omega arith) (omega arith))

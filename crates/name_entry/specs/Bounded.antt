@@ -23,6 +23,7 @@ use Rattle.spec.specs.Laws.Booleans.{and-left}
 use Rattle.spec.specs.Laws.Symbols.{head-drop, starts-take}
 use Rattle.spec.specs.Laws.Sweep.{Waits, sweep-same}
 use Rattle.spec.specs.Laws.Matches.{Keeps, AtPattern, somewhere-alike, somewhere-contains}
+use Rattle.text.specs.Writer.{mostWritten}
 use Rattle.name_entry.specs.declared.bounds.Bounds.{Bounds}
 use Rattle.name_entry.specs.declared.bounds.Bounds.the-variants.{Literal, Greek, Word, Capital, Defined}
 
@@ -70,8 +71,8 @@ behind-at pattern s i = sym (ap head (drop-drop (length pattern) i s) ∙ head-d
 -- what an entry's texts have to be
 pub record EntryTextsFit (pattern fresh : List ℕ) : Type 0 where
   pub positive : 0 < length pattern
-  pub short : length pattern ≤ 1024
-  pub few : length fresh ≤ 1024
+  pub short : length pattern ≤ mostWritten
+  pub few : length fresh ≤ mostWritten
 
 pub bounded-waits : (b : Bounds) (pattern fresh : List ℕ) → Waits pattern (bounded b pattern fresh)
 bounded-waits b pattern fresh = record { copies = λ before s e. rw e }

@@ -22,7 +22,7 @@ ghost use Rattle.text_search.specs.Half.{halfWork};
 ghost use Rattle.spec.specs.Sweep.{sweep};
 ghost use Rattle.spec.specs.Laws.Matches.{somewhereFrom};
 ghost use Rattle.text_symbols.specs.Parts.{part};
-ghost use Rattle.text.specs.Writer.{Room, Appended, Regions};
+ghost use Rattle.text.specs.Writer.{mostWritten, Room, Appended, Regions};
 ghost use Rattle.text.specs.Stage.{Ready};
 ghost use Rattle.text.specs.Untouched.{Untouched};
 ghost use Rattle.name_entry.specs.Bounded.{EntryTextsFit, stands as standing, spares, bounded, boundedAt, boundedMatch};
@@ -42,7 +42,7 @@ fn stands(s: &[u8], i: usize, bounds: Bounds, pattern: &[u8]) -> bool
 
 // Whether a pattern that stands at place i is to be spared.
 fn is_spared(s: &[u8], i: usize, bounds: Bounds, pattern: &[u8]) -> bool
-    requires { ⌜ (i ≤ length (now s)) × ((length (now s) ≤ halfWork) × (length (now pattern) ≤ 1024)) ⌝ }
+    requires { ⌜ (i ≤ length (now s)) × ((length (now s) ≤ halfWork) × (length (now pattern) ≤ mostWritten)) ⌝ }
     ensures { λ r. ⌜ r ≡ spares bounds (now (pattern .entry)) (getD (0 ∷ now (s .entry)) i 0) (drop i (now (s .entry))) ⌝ }
 {
     let behind = text_search::symbol(s, i + pattern.len());
@@ -51,7 +51,7 @@ fn is_spared(s: &[u8], i: usize, bounds: Bounds, pattern: &[u8]) -> bool
 
 // Whether there is a match at place i: the pattern is taken, and not left as it is.
 fn is_match(s: &[u8], i: usize, bounds: Bounds, pattern: &[u8]) -> bool
-    requires { ⌜ (i ≤ length (now s)) × ((length (now s) ≤ halfWork) × (length (now pattern) ≤ 1024)) ⌝ }
+    requires { ⌜ (i ≤ length (now s)) × ((length (now s) ≤ halfWork) × (length (now pattern) ≤ mostWritten)) ⌝ }
     ensures { λ r. ⌜ r ≡ boundedAt bounds (now (pattern .entry)) (getD (0 ∷ now (s .entry)) i 0) (drop i (now (s .entry))) ⌝ }
 {
     stands(s, i, bounds, pattern) & !is_spared(s, i, bounds, pattern)
@@ -59,7 +59,7 @@ fn is_match(s: &[u8], i: usize, bounds: Bounds, pattern: &[u8]) -> bool
 
 // Whether there is a match from `start` on. Behind it, only where the pattern stands is more looked at.
 fn is_matched(s: &[u8], start: usize, bounds: Bounds, pattern: &[u8]) -> bool
-    requires { ⌜ (start < length (now s)) × ((length (now s) ≤ halfWork) × (length (now pattern) ≤ 1024)) ⌝ }
+    requires { ⌜ (start < length (now s)) × ((length (now s) ≤ halfWork) × (length (now pattern) ≤ mostWritten)) ⌝ }
     ensures { λ r. ⌜ r ≡ somewhereFrom (boundedAt bounds (now (pattern .entry))) (now (s .entry)) start ⌝ }
 {
     let mut i = start;
@@ -83,7 +83,7 @@ fn put_entry(
     pattern: &[u8],
     fresh: &[u8],
 ) -> usize
-    requires { ⌜ Room (now work) to mostSymbols count 1024 ⌝ }
+    requires { ⌜ Room (now work) to mostSymbols count mostWritten ⌝ }
     requires { ⌜ EntryTextsFit (now pattern) (now fresh) ⌝ }
     ensures { λ r. ⌜ Appended (now (work .entry)) (now (work .exit)) to mostSymbols count r (cond spared (now (pattern .entry)) (now (fresh .entry))) ⌝ }
 {

@@ -8,7 +8,7 @@ use lib.ListN.{length, getD, take, drop, length-take, length-append}
 use lib.Seq.{drop-drop}
 use Rattle.spec.specs.Sweep.{Rule}
 use Rattle.text_symbols.specs.Parts.{part}
-use Rattle.text.specs.Writer.{Appended}
+use Rattle.text.specs.Writer.{mostWritten, Appended}
 use Rattle.text.specs.Sweep.{Sweeping, restFrom, rest-read, symbols-read, sweeping-more, sweeping-kept}
 use Rattle.text_symbols.specs.Trim.{spanned}
 use Rattle.text_symbols.specs.declared.Span.{Span}
@@ -18,7 +18,7 @@ use Rattle.pattern_rewriting.specs.declared.Edit.the-variants.{Copy, Wri
 use Rattle.pattern_rewriting.specs.Edits.{ending, editTurn, EditFits, EditSound, patternRule, Edited}
 
 -- what is written is little beside the symbols that are taken
-written-few : (left s : List ℕ) (closed : Bool) (taken : ℕ) → length left ≤ 64 → length s ≤ taken → 0 < taken → length (left ++ s ++ ending closed) ≤ 1024 * (1 + pred taken)
+written-few : (left s : List ℕ) (closed : Bool) (taken : ℕ) → length left ≤ 64 → length s ≤ taken → 0 < taken → length (left ++ s ++ ending closed) ≤ mostWritten * (1 + pred taken)
 written-few left s true taken l h some = simp length-append (omega arith)
 written-few left s false taken l h some = simp length-append (omega arith)
 

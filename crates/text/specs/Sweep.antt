@@ -17,16 +17,16 @@ use Rattle.spec.specs.Sweep.{Turn, Rule, kept, sweep}
 use Rattle.spec.specs.Laws.Symbols.{drop-step}
 use Rattle.spec.specs.Laws.Sweep.{Waits, swept, swept-turn, swept-copied, swept-end}
 use Rattle.text_symbols.specs.Parts.{part, length-part, getD-part, rest-part, whole-part, sub-part}
-use Rattle.text.specs.Writer.{Room, Appended, Apart, Regions, apart-part, appended-none, appended-more, appended-long, appended-part}
+use Rattle.text.specs.Writer.{mostWritten, Room, Appended, Apart, Regions, apart-part, appended-none, appended-more, appended-long, appended-part}
 
--- it began with the buffer w₀ and with `count₀` symbols written. A turn writes at most 1,024 symbols for each that it takes, so the count stays small
+-- it began with the buffer w₀ and with `count₀` symbols written. A turn writes at most `mostWritten` symbols for each that it takes, so the count stays small
 pub record Sweeping (rule : Rule) (w₀ w : List ℕ) (from n to cap count₀ count i : ℕ) : Type 0 where
   pub regions : Regions w₀ from n to cap count₀
   pub out : List ℕ
   pub appended : Appended w₀ w to cap count₀ count out
   pub long : length w ≡ length w₀
   pub same-as-whole : out ++ swept rule (part from n w₀) i ≡ sweep rule 0 0 (part from n w₀)
-  pub bounded : count ≤ count₀ + 1024 * i
+  pub bounded : count ≤ count₀ + mostWritten * i
 
 pub sweeping-none : (rule : Rule) {w : List ℕ} {from n to cap count : ℕ} → Regions w from n to cap count → Sweeping rule w w from n to cap count count 0
 unfolding swept
@@ -106,7 +106,7 @@ module _ {rule : Rule} {w₀ w : List ℕ} {from n to cap count₀ count i : ℕ
     -- the turn at place i has been written
     pub sweeping-more :
         {w′ : List ℕ} {count′ : ℕ} (t : Turn) → rule (getD (0 ∷ part from n w₀) i 0) (drop i (part from n w₀)) ≡ t
-        → Appended w w′ to cap count count′ (t .fresh) → length (t .fresh) ≤ 1024 * (1 + t .more)
+        → Appended w w′ to cap count count′ (t .fresh) → length (t .fresh) ≤ mostWritten * (1 + t .more)
         → Sweeping rule w₀ w′ from n to cap count₀ count′ (i + 1 + t .more)
     sweeping-more t e a few =
         let s = part from n w₀ in

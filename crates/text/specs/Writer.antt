@@ -50,13 +50,17 @@ Apart from n to cap = (from + n ≤ to) ⊎ (to + cap ≤ from)
 pub apart-part : (from n to cap i m : ℕ) → Apart from n to cap → i + m ≤ n → Apart (from + i) m to cap
 apart-part from n to cap i m o h = ⊎-elim (λ l. inl (omega arith)) (λ l. inr (omega arith)) o
 
+-- a stage writes at most this many symbols for each that it reads: the LaTeX of a definition, which has less
+abbrev pub mostWritten : ℕ
+mostWritten = 8192
+
 -- what a stage asks: n symbols at `from`, and apart from them a region in which `count` bytes have been written
 pub record Regions (w : List ℕ) (from n to cap count : ℕ) : Type 0 where
   pub source : from + n ≤ length w
   pub region : to + cap ≤ length w
   pub apart : Apart from n to cap
   pub short : n ≤ halfWork
-  pub small : count + 1024 * n < 2 ^ 31
+  pub small : count + mostWritten * n < 2 ^ 31
 
 -- ---- a byte is stored below the capacity, and not from there on
 stored-in : (w : List ℕ) (to cap count b : ℕ) → count < cap → stored w to cap count b ≡ set w (to + count) b
@@ -121,6 +125,15 @@ puts-at (b ∷ bs) w to cap count zero fits more below =
 puts-at (b ∷ bs) w to cap count (suc k) fits more below =
     rw (add-suc count k, ← suc-add count k)
     (puts-at bs (stored w to cap count b) to cap (suc count) k (rw (length-stored w to cap count b) fits) (omega arith) (omega arith))
+
+-- past the capacity nothing is stored
+puts-past : (bs w : List ℕ) (to cap count : ℕ) → cap ≤ count → puts w to cap count bs ≡ w
+unfolding puts
+puts-past [] w to cap count h = refl
+puts-past (b ∷ bs) w to cap count h = ap (λ v. puts v to cap (suc count) bs) (stored-out w to cap count b h) ∙ puts-past bs w to cap (suc count) (omega arith)
+
+pub appended-past : (bs w : List ℕ) (to cap count : ℕ) → cap ≤ count → Appended w w to cap count (count + length bs) bs
+appended-past bs w to cap count h = record { counted = refl; work = sym (puts-past bs w to cap count h) }
 
 -- ---- two appends in a row are one
 puts-append : (bs cs w : List ℕ) (to cap count : ℕ) → puts (puts w to cap count bs) to cap (count + length bs) cs ≡ puts w to cap count (bs ++ cs)

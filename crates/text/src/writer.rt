@@ -18,11 +18,14 @@ pub fn put(work: &mut [u8], to: usize, cap: usize, count: usize, b: u8) -> usize
     count + 1
 }
 
-// Appends all of `bytes`.
+// Appends all of `bytes`. Past the capacity they are only counted.
 pub fn put_all(work: &mut [u8], to: usize, cap: usize, count: usize, bytes: &[u8]) -> usize
     requires { ⌜ Room (now work) to cap count (length (now bytes)) ⌝ }
     ensures { λ r. ⌜ Appended (now (work .entry)) (now (work .exit)) to cap count r (now (bytes .entry)) ⌝ }
 {
+    if cap <= count {
+        return count + bytes.len();
+    }
     let mut end = count;
     for i in 0..bytes.len() {
         end = put(work, to, cap, end, bytes[i]);

@@ -5,6 +5,7 @@ use native.Mathlib.Omega.{arith}
 use lib.ListN.{length, length-take, length-drop}
 use borrow.Author.Tests.{not-true, not-false}
 use Rattle.spec.specs.Result.{mostSymbols}
+use Rattle.text.specs.Writer.{mostWritten}
 use Rattle.text.specs.Sweep.{Sweeping, sweeping-none, sweeping-all, gap-within, gap-room, sweeping-gap, turn-room, one-room}
 use Rattle.name_entry.specs.Bounded.{bounded, bounded-waits}
 use Rattle.name_entry.specs.Turns.{copied-here, taken-within, written-here}
@@ -91,7 +92,7 @@ put-entry-requires c κs =
     let in-loop : tie.In-loop Inv-loop μ-loop = search in
     let at-loop : tie.At-loop Inv-loop μ-loop = search in
     let at-start : tie.Start Inv-loop μ-loop = search in
-    (turn-room (at-loop .loop .inv .1) (in-loop .loop-test .taken) 1024 (omega arith), at-start .pre .1)
+    (turn-room (at-loop .loop .inv .1) (in-loop .loop-test .taken) mostWritten (omega arith), at-start .pre .1)
 
 -- where the pattern stands, it lies within the text
 within : (c : tie.Else1 Inv-loop μ-loop) → (let at-loop : tie.At-loop Inv-loop μ-loop = search in let at-start : tie.Start Inv-loop μ-loop = search in at-loop .loop .i + length (at-start .args .pattern .now) ≤ at-start .args .n)

@@ -1,10 +1,11 @@
--- `text::writer::put_all` meets its contract. The loop's invariant: the first i bytes have been appended. Assumes nothing.
+-- `text::writer::put_all` meets its contract. Past the capacity nothing is stored. The loop's invariant: the first i bytes have been appended. Assumes nothing.
 use Prim.Native.Nat.{_-_, _≤_}
 use mathlib.Core.Path.{_≡_, refl, ap, _∙_}
 use native.Mathlib.Omega.{arith}
+use borrow.Author.Needs.{needs}
 use lib.ListN.{length, take}
 use lib.Seq.{take-all}
-use Rattle.text.specs.Writer.{Appended, appended-none, next-room, next-appended, length-puts}
+use Rattle.text.specs.Writer.{Appended, appended-none, appended-past, next-room, next-appended, length-puts}
 use Rattle.text.proofs.writer.put_all.Statement.{statement}
 use Rattle.text.proofs.writer.put_all.Tie as tie
 
@@ -14,6 +15,12 @@ Inv-loop work₀ to cap count bytes end₀ i₀ i-end work end i =
 
 abbrev μ-loop : tie.MeasureT-loop
 μ-loop work₀ to cap count bytes end₀ i₀ i-end work end i = length bytes - i
+
+returns : tie.Need-returns Inv-loop μ-loop
+returns c =
+    let at-start : tie.Start Inv-loop μ-loop = search in
+    let a = at-start .args in
+    appended-past (a .bytes .now) (a .work .now) (a .to) (a .cap) (a .count) (c .if1 .taken)
 
 loop-holds : tie.Need-loop-holds Inv-loop μ-loop
 loop-holds c = (omega arith, refl, appended-none _ _ _ _)
@@ -32,12 +39,26 @@ loop-again c =
 same-length : tie.Need-same-length Inv-loop μ-loop
 same-length c = ap length (c .before .loop .inv .2 .work) ∙ length-puts _ _ _ _ _
 
-returns : tie.Need-returns Inv-loop μ-loop
-returns c =
+returns-2 : tie.Need-returns-2 Inv-loop μ-loop
+returns-2 c =
     let at-start : tie.Start Inv-loop μ-loop = search in
     let bytes = at-start .args .bytes .now in
     let all : length bytes ≤ c .before .loop .i = omega arith in
     rw (← take-all (c .before .loop .i) bytes all) (c .before .loop .inv .2)
 
 pub put-all-spec : {M : Type 1} → statement M
-put-all-spec = tie.close (tie.spec Inv-loop μ-loop loop-holds (λ c. omega arith) put-requires (λ c. omega arith) (λ c. omega arith) loop-again same-length returns)
+put-all-spec =
+    tie.close
+    (tie.spec
+    Inv-loop
+    μ-loop
+    (λ c. search needs)
+    returns
+    loop-holds
+    (λ c. omega arith)
+    put-requires
+    (λ c. omega arith)
+    (λ c. omega arith)
+    loop-again
+    same-length
+    returns-2)
