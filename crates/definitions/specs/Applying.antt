@@ -21,7 +21,6 @@ use Rattle.spec.specs.Matches.{definedMatch}
 use Rattle.spec.specs.Laws.Order.{rearranged-in-order}
 use Rattle.spec.specs.Laws.Table.{sound-name-some}
 use Rattle.spec.specs.Laws.Matches.{unmatched-rearranged}
-use Rattle.text_symbols.specs.Parts.{length-part}
 use Rattle.text.specs.Stage.{Ready, shown}
 use Rattle.text.specs.Untouched.{Untouched, untouched-alike, EntriesLeft, entries-none, entries-more, entries-all}
 use Rattle.text.specs.declared.Progress.{Progress}
@@ -34,7 +33,7 @@ use Rattle.name_entry.specs.Sized.{sized, FitsWithBlocks, StagedWithin, Remaini
 use Rattle.table.specs.declared.Record.{Record}
 use Rattle.table.specs.declared.order.Cursor.{Cursor}
 use Rattle.table.specs.declared.order.Cursor.the-variants.{Start, Behind}
-use Rattle.table.specs.Reading.{Lies, Short, definitionAt, length-name}
+use Rattle.table.specs.Reading.{Lies, Short, definitionAt, length-name, length-latex}
 use Rattle.table.specs.Order.{remaining, remaining-start}
 use Rattle.held_stages.specs.Outside.{Extra}
 use Rattle.held_stages.specs.Carried.{held-sized}
@@ -55,9 +54,7 @@ pub record Usable (table : List ℕ) (r : Record) : Type 0 where
 module _ {table : List ℕ} {r : Record} (usable : Usable table r) where
   pub record-fair : EntryTextsFit (definitionAt table r .name) (definitionAt table r .latex)
   record-fair =
-      let l = usable .lies in let n = length-name l in let s = usable .short in let m = usable .some-name in
-      let w = l .written in let i = l .inside in
-      let x = length-part (r .latex) (r .next - r .latex) table (omega arith) in
+      let l = usable .lies in let n = length-name l in let x = length-latex l in let s = usable .short in let m = usable .some-name in
       record { positive = omega arith; short = omega arith; few = omega arith }
 
   -- a name of one byte is skipped

@@ -14,7 +14,7 @@ use Rattle.spec.specs.Result.{passed, _then_}
 use Rattle.spec.specs.Rows.{Row}
 use Rattle.spec.specs.Pipeline.{mostFormula, leastWork, definitionsOr, admitted, typstToLatex, fitting, converted, answerOf, outputAfter, workAfter, Call}
 use Rattle.spec.specs.Starred.{starred, starred-hold}
-use Rattle.plain_printing.specs.Calls.{empty-table}
+use Rattle.plain_printing.specs.Calls.{NoRecords, none-or}
 use Rattle.entry_ends.specs.Answer.{meaning}
 use Rattle.entry_ends.specs.declared.Answer.{Answer}
 use Rattle.entry_ends.specs.declared.Answer.the-variants.{Done, Refused}
@@ -30,18 +30,22 @@ means-done (Refused why) e = cc
 
 -- ---- a call on one formula
 module _ (formula latex : List ℕ) (short : ltb mostFormula (length formula) ≡ false) (native : any foreign formula ≡ false)
-    (converts : typstToLatex [] true formula ≡ passed latex) (work output : List ℕ) (wide : leastWork ≤ length work) (room : length latex ≤ length output) where
-  admits : admitted formula [] work ≡ passed formula
-  admits = rw (le-ltb (length work) leastWork wide, admitted, short, native, empty-table)
+    (converts : typstToLatex [] true formula ≡ passed latex) (table : List ℕ) (empty : NoRecords table) (work output : List ℕ) (wide : leastWork ≤ length work) (room : length latex ≤ length output) where
+  admits : admitted formula table work ≡ passed formula
+  admits = rw (le-ltb (length work) leastWork wide, admitted, short, native, empty)
 
   fits : fitting output latex ≡ passed latex
   fits = rw (le-ltb (length output) (length latex) room)
 
-  gives : converted formula [] true work output ≡ passed latex
+  gives : converted formula table true work output ≡ passed latex
   unfolding converted
-  gives = ap (λ r. r then typstToLatex (definitionsOr []) true then fitting output) admits ∙ ap (λ r. r then fitting output) converts ∙ fits
+  gives =
+      ap (λ r. r then typstToLatex (definitionsOr table) true then fitting output) admits
+      ∙ ap (λ ds. typstToLatex ds true formula then fitting output) (none-or table empty)
+      ∙ ap (λ r. r then fitting output) converts
+      ∙ fits
 
-  pub call-gives : {answer : Answer} {work′ output′ : List ℕ} → Call formula [] true work output (meaning answer) work′ output′ → Gives latex work output answer work′ output′
+  pub call-gives : {answer : Answer} {work′ output′ : List ℕ} → Call formula table true work output (meaning answer) work′ output′ → Gives latex work output answer work′ output′
   call-gives {answer} c =
       record {
         answers = means-done answer (c .answers ∙ ap answerOf gives);
@@ -76,9 +80,9 @@ starred-native : map alien starred ≡ map never starred
 starred-native = refl
 
 pub starred-calls : {r : Row} → r ∈ starred
-    → {work output work′ output′ : List ℕ} {answer : Answer} → leastWork ≤ length work → length (r .latex) ≤ length output
-    → Call (r .typst) [] true work output (meaning answer) work′ output′
+    → {table work output work′ output′ : List ℕ} {answer : Answer} → NoRecords table → leastWork ≤ length work → length (r .latex) ≤ length output
+    → Call (r .typst) table true work output (meaning answer) work′ output′
     → Gives (r .latex) work output answer work′ output′
-starred-calls {r} m {work} {output} wide room =
+starred-calls {r} m {table} {work} {output} empty wide room =
     call-gives (r .typst) (r .latex) (at-row overlong never m starred-short) (at-row alien never m starred-native)
-    (at-row (λ (r : Row). typstToLatex [] true (r .typst)) (λ (r : Row). passed (r .latex)) m starred-hold) work output wide room
+    (at-row (λ (r : Row). typstToLatex [] true (r .typst)) (λ (r : Row). passed (r .latex)) m starred-hold) table empty work output wide room

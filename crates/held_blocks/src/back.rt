@@ -18,8 +18,8 @@ fn put_block(work: &mut [u8], to: usize, len: usize, k: usize) -> usize
     ensures { λ r. ⌜ Appended (now (work .entry)) (now (work .exit)) to mostSymbols len r (storedAt (now (work .entry)) k) ⌝ }
 {
     let at = super::PLACES_AT + 4 * k;
-    let start = text_symbols::wide(work[at]) * 256 + text_symbols::wide(work[at + 1]);
-    let long = text_symbols::wide(work[at + 2]) * 256 + text_symbols::wide(work[at + 2 + 1]);
+    let start = text_symbols::value(work[at]) * 256 + text_symbols::value(work[at + 1]);
+    let long = text_symbols::value(work[at + 2]) * 256 + text_symbols::value(work[at + 2 + 1]);
     text::copy(work, super::BLOCKS_AT + start, long, to, text::CAP, len)
 }
 

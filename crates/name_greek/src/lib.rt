@@ -54,7 +54,7 @@ pub fn end_of(table: &[u8], at: usize) -> usize
     requires { ⌜ at < length (now table) ⌝ }
     ensures { λ r. ⌜ r ≡ at + 1 + getD (now (table .entry)) at 0 ⌝ }
 {
-    at + 1 + text_symbols::wide(table[at])
+    at + 1 + text_symbols::value(table[at])
 }
 
 // Whether the text is row k's name.

@@ -1,24 +1,28 @@
 -- Calls on plain formulas, with display on and a table of no records, whatever buffers are lent.
+--     no-records        a table of no records has no bytes, or the byte 00 alone
 --     call-prints       an accepting call puts out the formula's LaTeX
 --     call-accepts      a call within the limits accepts
 --     accepting-call    there are such calls
 --     calls-apart       two accepting calls that put out the same bytes had the same formula
 use mathlib.Core.Path.{_≡_, refl, sym, ap, _∙_, subst}
 use mathlib.Core.Bool.{Bool, true, false, cond}
-use mathlib.Core.List.{List, [], _++_}
+use mathlib.Core.List.{List, [], _∷_, _++_}
+use mathlib.Core.Logic.{_⊎_, inl, inr}
 use mathlib.Core.Option.{Option, none, some, Option·getD}
-use Prim.Native.Nat.{ℕ, _≤_}
-use lib.Dec.{ltb}
+use Prim.Native.Nat.{ℕ, suc, _+_, _≤_}
+use native.Mathlib.Omega.{arith}
+use lib.Dec.{eqb, ltb}
 use lib.ListN.{length, take, drop, replicate}
 use lib.Seq.{take-append-seam}
-use borrow.Author.Tests.{le-ltb}
+use borrow.Author.Tests.{eqb-true, le-ltb}
 use Rattle.spec.specs.Symbols.{foreign, all, any}
 use Rattle.spec.specs.Result.{Result, passed, refused, mostSymbols}
-use Rattle.spec.specs.Table.{Definition, definitions}
+use Rattle.spec.specs.Table.{Definition, Form, narrow, wide, formOf, start, definitions}
 use Rattle.spec.specs.Fractions.{mostRounds}
 use Rattle.spec.specs.Pipeline.{typstToLatex, mostFormula, leastWork, definitionsOr, readable, admitted, fitting, converted, answerOf, outputAfter, workAfter, Call}
 use Rattle.spec.specs.Grammar
 use Rattle.spec.specs.Grammar.{Plain}
+use Rattle.spec.specs.Laws.Table.{records-long, definitions-some}
 use Rattle.plain_printing.specs.Tree.{typstStyle}
 use Rattle.plain_printing.specs.Alphabet.{plainSymbol, all-plain, not-foreign}
 use Rattle.plain_printing.specs.Yields.{Yields, yields-weaken, then-yields}
@@ -30,11 +34,29 @@ use Rattle.plain_printing.specs.Sums.{sum-yields, sums-apart}
 abbrev pub NoRecords : List ℕ → Type 0
 NoRecords table = definitions table ≡ some []
 
+-- there are two: one of no bytes, and the byte 00 of the wide form alone
 pub empty-table : NoRecords []
 unfolding definitions
 empty-table = refl
 
-none-or : (table : List ℕ) → NoRecords table → definitionsOr table ≡ []
+pub wide-empty-table : NoRecords (0 ∷ [])
+unfolding definitions
+wide-empty-table = refl
+
+pub no-records : (table : List ℕ) → NoRecords table → (table ≡ []) ⊎ (table ≡ 0 ∷ [])
+no-records table h = go table (records-long table [] (definitions-some table [] h .0))
+  where
+    go : (table : List ℕ) → length table ≡ start (formOf table) + 0 → (table ≡ []) ⊎ (table ≡ 0 ∷ [])
+    go [] e = inl refl
+    go (x ∷ s) e = by-form (eqb x 0) refl s e
+      where
+        by-form : (b : Bool) → eqb x 0 ≡ b → (s : List ℕ) → suc (length s) ≡ start (elim b as (λ _. Form) [ true ↦ wide | false ↦ narrow ]) + 0
+            → (x ∷ s ≡ []) ⊎ (x ∷ s ≡ 0 ∷ [])
+        by-form true f [] e = inr (ap (λ y. y ∷ []) (eqb-true x 0 f))
+        by-form true f (y ∷ s) e = absurd (omega arith)
+        by-form false f s e = absurd (omega arith)
+
+pub none-or : (table : List ℕ) → NoRecords table → definitionsOr table ≡ []
 none-or table h = ap (λ (ds : Option (List Definition)). Option·getD ds []) h
 
 -- ---- the answer of a call
@@ -123,11 +145,10 @@ module _ {formula : List ℕ} (p : Plain formula) (table : List ℕ) (empty : No
   pub call-accepts : WithinLimits p work output → {answer : Result ℕ} → Call formula table true work output answer work′ output′ → answer ≡ passed (length (latexOf p))
   call-accepts w c = c .answers ∙ ap answerOf (converted-accepts p table empty work output w)
 
-pub accepting-call : {formula : List ℕ} (p : Plain formula) (work output : List ℕ) → WithinLimits p work output
-    → Call formula [] true work output (passed (length (latexOf p))) (replicate (length work) 0) (latexOf p ++ drop (length (latexOf p)) output)
-unfolding definitions
-accepting-call {formula} p work output w =
-    let accepted : converted formula [] true work output ≡ passed (latexOf p) = converted-accepts p [] empty-table work output w in
+pub accepting-call : {formula : List ℕ} (p : Plain formula) (table : List ℕ) → NoRecords table → (work output : List ℕ) → WithinLimits p work output
+    → Call formula table true work output (passed (length (latexOf p))) (replicate (length work) 0) (latexOf p ++ drop (length (latexOf p)) output)
+accepting-call {formula} p table empty work output w =
+    let accepted : converted formula table true work output ≡ passed (latexOf p) = converted-accepts p table empty work output w in
     record {
       answers = ap answerOf (sym accepted);
       clears = ap (λ r. workAfter r work) (sym accepted);

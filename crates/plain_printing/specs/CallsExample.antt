@@ -1,4 +1,4 @@
--- An accepting call: `a/(b/c)` with any buffers that are large enough.
+-- An accepting call: `a/(b/c)` with either table of no records and any buffers that are large enough.
 use mathlib.Core.Path.{_≡_, refl}
 use mathlib.Core.Bool.{true}
 use mathlib.Core.List.{List, [], _++_}
@@ -10,7 +10,7 @@ use Rattle.spec.specs.Symbols.{bytes}
 use Rattle.spec.specs.Result.{passed}
 use Rattle.spec.specs.Pipeline.{leastWork, Call}
 use Rattle.spec.specs.Grammar.{variable, Sum, product, factor, fraction, atom, enclosed, Plain, text, latex, depth}
-use Rattle.plain_printing.specs.Calls.{WithinLimits, accepting-call}
+use Rattle.plain_printing.specs.Calls.{NoRecords, WithinLimits, accepting-call}
 
 abbrev nested : Sum
 nested = product (factor (fraction (atom (variable (code "a") refl)) (enclosed (product (factor (fraction (atom (variable (code "b") refl)) (atom (variable (code "c") refl))))))))
@@ -30,11 +30,11 @@ nested-depth = refl
 nested-plain : Plain (bytes "a/(b/c)")
 nested-plain = record { sum = nested; is-proper = refl; reads = nested-text; short = omega arith }
 
-module _ (work output : List ℕ) (wide : leastWork ≤ length work) (long : 21 ≤ length output) where
+module _ (table : List ℕ) (empty : NoRecords table) (work output : List ℕ) (wide : leastWork ≤ length work) (long : 21 ≤ length output) where
   within : WithinLimits nested-plain work output
   unfolding nested-plain
   within = record { work-wide = wide; shallow = rw nested-depth (omega arith); latex-short = rw nested-latex (omega arith); output-long = rw nested-latex long }
 
-  pub nested-call : Call (bytes "a/(b/c)") [] true work output (passed 21) (replicate (length work) 0) (bytes "\\frac{a}{\\frac{b}{c}}" ++ drop 21 output)
+  pub nested-call : Call (bytes "a/(b/c)") table true work output (passed 21) (replicate (length work) 0) (bytes "\\frac{a}{\\frac{b}{c}}" ++ drop 21 output)
   unfolding nested-plain latex
-  nested-call = accepting-call nested-plain work output within
+  nested-call = accepting-call nested-plain table empty work output within

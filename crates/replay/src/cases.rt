@@ -86,7 +86,7 @@ fn case_of(header: &[u8]) -> Case
         output: two(header, 6),
         formula: two(header, 8),
         table: four(header, 10),
-        number: text_symbols::wide(header[14]) as u64,
+        number: text_symbols::value(header[14]) as u64,
         latex: two(header, 15),
     }
 }
@@ -118,7 +118,7 @@ fn two(s: &[u8], at: usize) -> usize
     ensures { λ r. ⌜ r ≡ getD (now (s .entry)) at 0 * 256 + getD (now (s .entry)) (at + 1) 0 ⌝ }
     ensures { λ r. ⌜ r < 65536 ⌝ }
 {
-    text_symbols::wide(s[at]) * 256 + text_symbols::wide(s[at + 1])
+    text_symbols::value(s[at]) * 256 + text_symbols::value(s[at + 1])
 }
 
 fn four(s: &[u8], at: usize) -> usize

@@ -1,5 +1,8 @@
--- The definition table: records of a 16-bit header, most significant bit first (6 bits name length, 10 bits LaTeX length), a name and its LaTeX.
---     definitions    the records of a table, or none where number 3 refuses it
+-- The definition table: records of a header, a name and its LaTeX, in one of two forms. A table whose first byte is 00 is in the wide form: behind
+-- that byte each header has 24 bits, most significant first (4 zero bits, 7 bits name length, 13 bits LaTeX length). Any other table is in the
+-- narrow form, with headers of 16 bits (6 bits name length, 10 bits LaTeX length).
+--     records        the records of a table of either form, or none where one of them can't be read
+--     definitions    the same, or none where number 3 refuses the table
 --     inOrder        the order in which they are applied: longer names first, names of equal length in ascending byte order
 -- Assumes nothing.
 use mathlib.Core.Bool.{Bool, true, false, not, cond, _&&_, _||_}
@@ -20,33 +23,75 @@ mostBytes = 32768
 abbrev pub mostRecords : ℕ
 mostRecords = 64
 
+-- ---- the two forms
+pub data Form : Type 0 where
+  narrow : Form
+  wide : Form
+
+abbrev pub formOf : List ℕ → Form
+formOf [] = narrow
+formOf (x ∷ table) = elim (eqb x 0) [ true ↦ wide | false ↦ narrow ]
+
+-- where the first record begins: behind the byte of the wide form
+abbrev pub start : Form → ℕ
+start narrow = 0
+start wide = 1
+
+-- the bytes of a header
+abbrev pub width : Form → ℕ
+width narrow = 2
+width wide = 3
+
+-- what a header says of its record
+pub record Lengths : Type 0 where
+  pub name : ℕ
+  pub latex : ℕ
+
+-- the header's bytes are `high`, in the wide form `middle`, and `low`
+abbrev pub narrowLengths : ℕ → ℕ → Lengths
+narrowLengths high low = record { name = high / 4; latex = (high % 4) * 256 + low }
+
+abbrev pub wideLengths : ℕ → ℕ → ℕ → Lengths
+wideLengths high middle low = record { name = high * 8 + middle / 32; latex = (middle % 32) * 256 + low }
+
+-- None where the header is cut off, or a bit is set among the first four of the wide form.
+abbrev pub lengthsOf : Form → List ℕ → Option Lengths
+lengthsOf narrow [] = none
+lengthsOf narrow (high ∷ []) = none
+lengthsOf narrow (high ∷ low ∷ rest) = some (narrowLengths high low)
+lengthsOf wide [] = none
+lengthsOf wide (high ∷ []) = none
+lengthsOf wide (high ∷ middle ∷ []) = none
+lengthsOf wide (high ∷ middle ∷ low ∷ rest) = cond (ltb high 16) (some (wideLengths high middle low)) none
+
 -- ---- reading
--- the header's bytes are `high` and `low`
-abbrev pub nameLength : ℕ → ℕ
-nameLength high = high / 4
+abbrev pub definitionOf : Lengths → List ℕ → Definition
+definitionOf l rest = record { name = take (l .name) rest; latex = take (l .latex) (drop (l .name) rest) }
 
-abbrev pub latexLength : ℕ → ℕ → ℕ
-latexLength high low = (high % 4) * 256 + low
+-- the record of these lengths at the beginning of `rest`, before those that are read behind it
+abbrev pub record-before : Lengths → List ℕ → Option (List Definition) → Option (List Definition)
+record-before l rest later =
+    elim (ltb (length rest) (l .name + l .latex)) [ true ↦ none | false ↦ Option·map (λ (ds : List Definition). definitionOf l rest ∷ ds) later ]
 
-abbrev pub definitionOf : ℕ → ℕ → List ℕ → Definition
-definitionOf n l rest = record { name = take n rest; latex = take l (drop n rest) }
+-- by what the header at the beginning of s says, with `later` for what follows the record
+abbrev pub recordsBehind : Form → List ℕ → (List ℕ → Option (List Definition)) → Option Lengths → Option (List Definition)
+recordsBehind form s later none = none
+recordsBehind form s later (some l) = let rest = drop (width form) s in record-before l rest (later (drop (l .name + l .latex) rest))
 
--- the record of n bytes of name and l of LaTeX, before those that are read behind it
-abbrev pub record-before : ℕ → ℕ → List ℕ → Option (List Definition) → Option (List Definition)
-record-before n l rest later = elim (ltb (length rest) (n + l)) [ true ↦ none | false ↦ Option·map (λ (ds : List Definition). definitionOf n l rest ∷ ds) later ]
+-- None where a header can't be read or a record goes past the end. k bounds the records; it never runs out, since each record has a header and k is
+-- the length of what is read.
+unfoldable pub recordsWith : Form → ℕ → List ℕ → Option (List Definition)
+recordsWith form zero s = some []
+recordsWith form (suc k) [] = some []
+recordsWith form (suc k) (x ∷ s) = recordsBehind form (x ∷ s) (λ t. recordsWith form k t) (lengthsOf form (x ∷ s))
 
--- None where a record goes past the end. k bounds the records; it never runs out, since each record has a header of two bytes and k is the
--- table's length.
-unfoldable pub recordsWith : ℕ → List ℕ → Option (List Definition)
-recordsWith zero s = some []
-recordsWith (suc k) [] = some []
-recordsWith (suc k) (high ∷ []) = none
-recordsWith (suc k) (high ∷ low ∷ rest) =
-    record-before (nameLength high) (latexLength high low) rest (recordsWith k (drop (nameLength high + latexLength high low) rest))
-
-unfoldable pub records : List ℕ → Option (List Definition)
+-- the records of a form, one after another
+unfoldable pub recordsIn : Form → List ℕ → Option (List Definition)
 unfolding recordsWith
-records table = recordsWith (length table) table
+recordsIn form s = recordsWith form (length s) s
+
+abbrev pub records : List ℕ → Option (List Definition)
+records table = recordsIn (formOf table) (drop (start (formOf table)) table)
 
 -- ---- faults
 abbrev pub faultyName : List ℕ → Bool
@@ -71,7 +116,7 @@ whole none = none
 whole (some ds) = sound ds
 
 unfoldable pub definitions : List ℕ → Option (List Definition)
-unfolding records faulty
+unfolding recordsIn faulty
 definitions table = elim (ltb mostBytes (length table)) [ true ↦ none | false ↦ whole (records table) ]
 
 -- ---- the order in which definitions are applied

@@ -7,6 +7,8 @@ pub mod Quotes
 pub mod Stages
 pub mod Outside
 pub mod SameRecords
+pub mod StoredTables
+pub mod TablesExample
 pub mod RustCalls
 pub mod PassedOver
 pub mod CallStages

@@ -1,23 +1,26 @@
 -- Two tables with the same records, in whatever order, give the same answer and bytes in every call. Assumes nothing.
---     SameRecords       both are read to the end, and the records of one are those of the other
---     converted-same    what a call comes to
---     calls-same        two calls of the entry with the same formula, display and buffers
+--     SameRecords        both are read to the end, and the records of one are those of the other
+--     calls-alike        two calls of the entry with the same formula, display and buffers, where number 3's limit of bytes parts the tables by nothing
+--     calls-same         so it is where both tables are of one form
+--     wide-calls-same    so it is where one is narrow and the other wide, if the wide one, which is longer, is not too long
 use mathlib.Core.Path.{_≡_, refl, sym, ap, ap₂, _∙_}
 use mathlib.Core.Bool.{Bool, true, false, _||_}
 use mathlib.Core.List.{List, []}
 use mathlib.Core.Option.{some, Option·getD}
-use Prim.Native.Nat.{ℕ}
+use Prim.Native.Nat.{ℕ, _+_, _≤_}
+use native.Mathlib.Omega.{arith}
 use lib.Dec.{ltb}
 use lib.ListN.{length}
+use borrow.Author.Tests.{le-ltb}
 use Rattle.spec.specs.Result.{Result, passed, refused, _then_, stage}
-use Rattle.spec.specs.Table.{Definition, mostBytes, mostRecords, records, faulty, definitions, inOrder, Rearranged}
+use Rattle.spec.specs.Table.{Definition, Form, narrow, wide, formOf, start, mostBytes, mostRecords, records, faulty, definitions, inOrder, Rearranged}
 use Rattle.spec.specs.Held.{holdTexts, putBack}
 use Rattle.spec.specs.Definitions.{applyDefinitions, applyDefinitionsOutsideText}
 use Rattle.spec.specs.Finish.{convertAlignment, dropThinSpaceAfterCommands}
 use Rattle.spec.specs.Pipeline.{convertSyntax, typstToLatex, definitionsOr, readable, admitted, fitting, converted, answerOf, outputAfter, workAfter, Call}
 use Rattle.spec.specs.Laws.Booleans.{or-neither}
 use Rattle.spec.specs.Laws.Order.{in-order-same}
-use Rattle.spec.specs.Laws.Table.{records-long, bytes-same, length-same, faulty-same, sound-distinct, definitionsUnless, wrong, definitions-unless, admitted-same}
+use Rattle.spec.specs.Laws.Table.{bytesOfRecords, records-long, bytes-wide, bytes-same, length-same, faulty-same, sound-distinct, definitionsUnless, wrong, definitions-unless, admitted-same}
 use Rattle.stage_laws.specs.Stages.{beforeDefinitions}
 
 pub record SameRecords (table table′ : List ℕ) : Type 0 where
@@ -42,19 +45,21 @@ typst-to-latex-order ds es display s h =
     ap (λ r. r then convertSyntax display then stage convertAlignment then stage dropThinSpaceAfterCommands)
     (then-same (beforeDefinitions s) (λ u. outside-text-order ds es u h))
 
--- ---- calls
-module _ {table table′ : List ℕ} (t : SameRecords table table′) where
-  long : ltb mostBytes (length table) ≡ ltb mostBytes (length table′)
-  long = ap (ltb mostBytes) (records-long table (t .first) (t .read) ∙ bytes-same (t .rearranged) ∙ sym (records-long table′ (t .second) (t .read′)))
+-- ---- number 3
+-- both have more than 32,768 bytes, or neither has
+abbrev pub SameLimit : List ℕ → List ℕ → Type 0
+SameLimit table table′ = ltb mostBytes (length table) ≡ ltb mostBytes (length table′)
 
+module _ {table table′ : List ℕ} (t : SameRecords table table′) where
   wrong-same : wrong (t .first) ≡ wrong (t .second)
   wrong-same = ap₂ (λ n b. ltb mostRecords n || b) (length-same (t .rearranged)) (faulty-same (t .rearranged))
 
   -- both are refused, or both are sound and have one order
   definitions-same :
-      (formula : List ℕ) → (readable formula (definitions table) ≡ readable formula (definitions table′)) × (inOrder (definitionsOr table) ≡ inOrder (definitionsOr table′))
-  definitions-same formula =
-      rw (definitions-unless table (t .first) (t .read), definitions-unless table′ (t .second) (t .read′), ← long, ← wrong-same)
+      SameLimit table table′ → (formula : List ℕ)
+      → (readable formula (definitions table) ≡ readable formula (definitions table′)) × (inOrder (definitionsOr table) ≡ inOrder (definitionsOr table′))
+  definitions-same limit formula =
+      rw (definitions-unless table (t .first) (t .read), definitions-unless table′ (t .second) (t .read′), ← limit, ← wrong-same)
       (go (ltb mostBytes (length table)) (wrong (t .first)) refl)
     where
       go : (a b : Bool) → wrong (t .first) ≡ b
@@ -67,21 +72,63 @@ module _ {table table′ : List ℕ} (t : SameRecords table table′) where
         in-order-same (t .rearranged) (sound-distinct (t .first) (or-neither (ltb mostRecords (length (t .first))) (faulty (t .first)) h .1)),
       )
 
-  pub converted-same :
-      (formula : List ℕ) (display : Bool) (work output : List ℕ) → converted formula table display work output ≡ converted formula table′ display work output
-  unfolding converted
-  converted-same formula display work output =
-      let d = definitions-same formula in
-      ap (λ r. r then typstToLatex (definitionsOr table) display then fitting output) (admitted-same formula table table′ work (d .0))
-      ∙ ap (λ r. r then fitting output) (then-same (admitted formula table′ work) (λ s. typst-to-latex-order (definitionsOr table) (definitionsOr table′) display s (d .1)))
+  -- ---- how long they are
+  form-limit : formOf table ≡ formOf table′ → SameLimit table table′
+  form-limit e =
+      let form = formOf table′ in
+      ap (ltb mostBytes)
+      (records-long table (t .first) (t .read)
+      ∙ ap (λ (f : Form). start f + bytesOfRecords f (t .first)) e
+      ∙ ap (λ n. start form + n) (bytes-same form (t .rearranged))
+      ∙ sym (records-long table′ (t .second) (t .read′)))
+
+  -- the wide form takes its own byte and one more for each record
+  pub wide-longer : formOf table ≡ narrow → formOf table′ ≡ wide → length table′ ≡ length table + 1 + length (t .second)
+  wide-longer e f =
+      let a = records-long table (t .first) (t .read) ∙ ap (λ (form : Form). start form + bytesOfRecords form (t .first)) e in
+      let b = records-long table′ (t .second) (t .read′) ∙ ap (λ (form : Form). start form + bytesOfRecords form (t .second)) f in
+      let c = bytes-same narrow (t .rearranged) in
+      let d = bytes-wide (t .second) in
+      omega arith
+
+  wide-limit : formOf table ≡ narrow → formOf table′ ≡ wide → length table′ ≤ mostBytes → SameLimit table table′
+  wide-limit e f short =
+      let longer = wide-longer e f in
+      le-ltb mostBytes (length table) (omega arith) ∙ sym (le-ltb mostBytes (length table′) short)
+
+  -- ---- calls
+  module _ (limit : SameLimit table table′) where
+    pub converted-same :
+        (formula : List ℕ) (display : Bool) (work output : List ℕ) → converted formula table display work output ≡ converted formula table′ display work output
+    unfolding converted
+    converted-same formula display work output =
+        let d = definitions-same limit formula in
+        ap (λ r. r then typstToLatex (definitionsOr table) display then fitting output) (admitted-same formula table table′ work (d .0))
+        ∙ ap (λ r. r then fitting output) (then-same (admitted formula table′ work) (λ s. typst-to-latex-order (definitionsOr table) (definitionsOr table′) display s (d .1)))
+
+    pub calls-alike :
+        {formula work output work′ output′ work″ output″ : List ℕ} {display : Bool} {answer answer′ : Result ℕ}
+        → Call formula table display work output answer work′ output′
+        → Call formula table′ display work output answer′ work″ output″
+        → (answer ≡ answer′) × ((work′ ≡ work″) × (output′ ≡ output″))
+    calls-alike {formula} {work} {output} {display = display} a b =
+        let e = converted-same formula display work output in (
+          a .answers ∙ ap answerOf e ∙ sym (b .answers),
+          (a .clears ∙ ap (λ r. workAfter r work) e ∙ sym (b .clears), a .writes ∙ ap (λ r. outputAfter r output) e ∙ sym (b .writes)),
+        )
 
   pub calls-same :
-      {formula work output work′ output′ work″ output″ : List ℕ} {display : Bool} {answer answer′ : Result ℕ}
+      formOf table ≡ formOf table′
+      → {formula work output work′ output′ work″ output″ : List ℕ} {display : Bool} {answer answer′ : Result ℕ}
       → Call formula table display work output answer work′ output′
       → Call formula table′ display work output answer′ work″ output″
       → (answer ≡ answer′) × ((work′ ≡ work″) × (output′ ≡ output″))
-  calls-same {formula} {work} {output} {display = display} a b =
-      let e = converted-same formula display work output in (
-        a .answers ∙ ap answerOf e ∙ sym (b .answers),
-        (a .clears ∙ ap (λ r. workAfter r work) e ∙ sym (b .clears), a .writes ∙ ap (λ r. outputAfter r output) e ∙ sym (b .writes)),
-      )
+  calls-same e = calls-alike (form-limit e)
+
+  pub wide-calls-same :
+      formOf table ≡ narrow → formOf table′ ≡ wide → length table′ ≤ mostBytes
+      → {formula work output work′ output′ work″ output″ : List ℕ} {display : Bool} {answer answer′ : Result ℕ}
+      → Call formula table display work output answer work′ output′
+      → Call formula table′ display work output answer′ work″ output″
+      → (answer ≡ answer′) × ((work′ ≡ work″) × (output′ ≡ output″))
+  wide-calls-same e f short = calls-alike (wide-limit e f short)

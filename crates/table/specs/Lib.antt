@@ -1,4 +1,5 @@
 -- What the contracts of `table` cite.
+pub mod Forms
 pub mod Records
 pub mod Reading
 pub mod Listed

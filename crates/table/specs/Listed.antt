@@ -1,4 +1,4 @@
--- The records from a place of a table on, up to the first that goes past its end: all of them where none does.
+-- The records from a place of a table on, up to the first that can't be read: all of them where each can.
 --     listed           those records
 --     listed-at        the same by what stands at the place
 --     listed-records   where `records` has them all, they are these
@@ -9,17 +9,17 @@ use mathlib.Core.Option.{Option, none, some, Option·map, Option·none-ne-some}
 use Prim.Native.Nat.{ℕ, zero, suc, _+_, _-_, _≤_, _<_}
 use native.Mathlib.Omega.{arith}
 use lib.ListN.{length, drop}
-use Rattle.spec.specs.Table.{Definition, records}
-use Rattle.table.specs.Reading.{Lies, Short, Reads, stands-short, readAt, read-end, recordsBy, records-at, read-places, definitionAt}
+use Rattle.spec.specs.Table.{Definition, formOf, recordsIn, records}
+use Rattle.table.specs.Reading.{Lies, Short, Reads, stands-short, readAt, firstPlace, read-end, recordsBy, records-at, read-places, definitionAt}
 use Rattle.table.specs.declared.Record.{Record}
 use Rattle.table.specs.declared.Reading.{Reading}
-use Rattle.table.specs.declared.Reading.the-variants.{Whole, End, PastEnd}
+use Rattle.table.specs.declared.Reading.the-variants.{Whole, End, Unreadable}
 
 -- what is read, before the records of a later place
 abbrev listing : List ℕ → (ℕ → List Definition) → Reading → List Definition
 listing s later (Whole r) = definitionAt s r ∷ later (r .next)
 listing s later End = []
-listing s later PastEnd = []
+listing s later Unreadable = []
 
 -- at most k of them
 unfoldable pub listedWith : ℕ → List ℕ → ℕ → List Definition
@@ -45,15 +45,15 @@ module _ (s : List ℕ) where
   enough : (k m at : ℕ) → length s - at ≤ k → length s - at ≤ m → listedWith k s at ≡ listedWith m s at
   unfolding listedWith
   enough zero zero at h g = refl
-  enough zero (suc m) at h g = rw (read-end s at (omega arith))
-  enough (suc k) zero at h g = rw (read-end s at (omega arith))
+  enough zero (suc m) at h g = rw (read-end (formOf s) s at (omega arith))
+  enough (suc k) zero at h g = rw (read-end (formOf s) s at (omega arith))
   enough (suc k) (suc m) at h g = go (readAt s at) refl (enough k m)
     where
       go : (r : Reading) → readAt s at ≡ r → ((next : ℕ) → length s - next ≤ k → length s - next ≤ m → listedWith k s next ≡ listedWith m s next)
           → listing s (λ next. listedWith k s next) r ≡ listing s (λ next. listedWith m s next) r
-      go (Whole r) e later = let p = read-places s at e in ap (λ ds. definitionAt s r ∷ ds) (later (r .next) (omega arith) (omega arith))
+      go (Whole r) e later = let p = read-places (formOf s) s at e in ap (λ ds. definitionAt s r ∷ ds) (later (r .next) (omega arith) (omega arith))
       go End e later = refl
-      go PastEnd e later = refl
+      go Unreadable e later = refl
 
   pub listed-at : (at : ℕ) → listed s at ≡ listedBy s (readAt s at)
   unfolding listed listedWith
@@ -62,29 +62,29 @@ module _ (s : List ℕ) where
       go : (r : Reading) → listing s (λ next. listedWith (length s) s next) r ≡ listing s (listed s) r
       go (Whole r) = ap (λ ds. definitionAt s r ∷ ds) (enough (length s) (length s - r .next) (r .next) (omega arith) (omega arith))
       go End = refl
-      go PastEnd = refl
+      go Unreadable = refl
 
   -- the same as `records` has them, with a bound k on how far the table goes on
-  listed-before : (k at : ℕ) (ds : List Definition) → length s ≤ at + k → records (drop at s) ≡ some ds → listed s at ≡ ds
+  listed-before : (k at : ℕ) (ds : List Definition) → length s ≤ at + k → recordsIn (formOf s) (drop at s) ≡ some ds → listed s at ≡ ds
   listed-before zero at ds h e =
-      let end = read-end s at (omega arith) in
-      let none-left : recordsBy s End ≡ some ds = ap (recordsBy s) (sym end) ∙ sym (records-at s at) ∙ e in
+      let end = read-end (formOf s) s at (omega arith) in
+      let none-left : recordsBy (formOf s) s End ≡ some ds = ap (recordsBy (formOf s) s) (sym end) ∙ sym (records-at (formOf s) s at) ∙ e in
       listed-at at ∙ ap (listedBy s) end ∙ cc
-  listed-before (suc k) at ds h e = listed-at at ∙ go (readAt s at) refl (sym (records-at s at) ∙ e) (listed-before k)
+  listed-before (suc k) at ds h e = listed-at at ∙ go (readAt s at) refl (sym (records-at (formOf s) s at) ∙ e) (listed-before k)
     where
-      past : (r : Record) (o : Option (List Definition)) → records (drop (r .next) s) ≡ o → Option·map (λ (es : List Definition). definitionAt s r ∷ es) o ≡ some ds
-          → ((es : List Definition) → records (drop (r .next) s) ≡ some es → listed s (r .next) ≡ es) → definitionAt s r ∷ listed s (r .next) ≡ ds
+      past : (r : Record) (o : Option (List Definition)) → recordsIn (formOf s) (drop (r .next) s) ≡ o → Option·map (λ (es : List Definition). definitionAt s r ∷ es) o ≡ some ds
+          → ((es : List Definition) → recordsIn (formOf s) (drop (r .next) s) ≡ some es → listed s (r .next) ≡ es) → definitionAt s r ∷ listed s (r .next) ≡ ds
       past r none e f later = absurd (Option·none-ne-some ds f)
       past r (some es) e f later = let same : definitionAt s r ∷ es ≡ ds = cc in ap (λ l. definitionAt s r ∷ l) (later es e) ∙ same
 
-      go : (r : Reading) → readAt s at ≡ r → recordsBy s r ≡ some ds
-          → ((next : ℕ) (es : List Definition) → length s ≤ next + k → records (drop next s) ≡ some es → listed s next ≡ es) → listedBy s r ≡ ds
-      go (Whole r) e f later = let p = read-places s at e in past r (records (drop (r .next) s)) refl f (λ es. later (r .next) es (omega arith))
+      go : (r : Reading) → readAt s at ≡ r → recordsBy (formOf s) s r ≡ some ds
+          → ((next : ℕ) (es : List Definition) → length s ≤ next + k → recordsIn (formOf s) (drop next s) ≡ some es → listed s next ≡ es) → listedBy s r ≡ ds
+      go (Whole r) e f later = let p = read-places (formOf s) s at e in past r (recordsIn (formOf s) (drop (r .next) s)) refl f (λ es. later (r .next) es (omega arith))
       go End e f later = cc
-      go PastEnd e f later = absurd (Option·none-ne-some ds f)
+      go Unreadable e f later = absurd (Option·none-ne-some ds f)
 
-  pub listed-records : (ds : List Definition) → records s ≡ some ds → listed s 0 ≡ ds
-  listed-records ds e = listed-before (length s) 0 ds (omega arith) e
+  pub listed-records : (ds : List Definition) → records s ≡ some ds → listed s (firstPlace s) ≡ ds
+  listed-records ds e = listed-before (length s) (firstPlace s) ds (omega arith) e
 
 -- ---- what `record_at` tells of the records from a place on
 pub listed-read : {s : List ℕ} {at : ℕ} {x : Reading} → Reads s at x → listed s at ≡ listedBy s x
@@ -92,5 +92,5 @@ listed-read {s} {at} {x} reads = listed-at s at ∙ ap (listedBy s) (sym (reads 
 
 pub heads : {s : List ℕ} {at : ℕ} {x : Reading} {r : Record} → Reads s at x → x ≡ Whole r → Heads s at r
 heads {s} {at} {x} {r} reads e =
-    let p = read-places s at (sym (reads .read) ∙ e) in
+    let p = read-places (formOf s) s at (sym (reads .read) ∙ e) in
     record { behind = p .0; lies = p .1; short = stands-short (rw e at (reads .stands)); first = listed-read reads ∙ ap (listedBy s) e }

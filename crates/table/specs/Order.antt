@@ -26,11 +26,11 @@ use Rattle.spec.specs.Laws.Selection.{
   picked-next,
   picked-none,
 }
-use Rattle.table.specs.Reading.{Lies, ReadingLies, definitionAt, nameAt}
+use Rattle.table.specs.Reading.{Lies, ReadingLies, firstPlace, definitionAt, nameAt}
 use Rattle.table.specs.Listed.{listed, listed-records}
 use Rattle.table.specs.declared.Record.{Record}
 use Rattle.table.specs.declared.Reading.{Reading}
-use Rattle.table.specs.declared.Reading.the-variants.{Whole, End, PastEnd}
+use Rattle.table.specs.declared.Reading.the-variants.{Whole, End, Unreadable}
 use Rattle.table.specs.declared.order.Cursor.{Cursor}
 use Rattle.table.specs.declared.order.Cursor.the-variants.{Start, Behind}
 
@@ -48,13 +48,13 @@ definitionsLeft s Start ds = ds
 definitionsLeft s (Behind r) ds = later (nameAt s r) ds
 
 unfoldable pub remaining : List ℕ → Cursor → List Definition
-remaining s c = inOrder (definitionsLeft s c (listed s 0))
+remaining s c = inOrder (definitionsLeft s c (listed s (firstPlace s)))
 
 -- the definition that a reading stands for
 abbrev pub chosen : List ℕ → Reading → Option Definition
 chosen s (Whole r) = some (definitionAt s r)
 chosen s End = none
-chosen s PastEnd = none
+chosen s Unreadable = none
 
 -- ---- what the functions ensure
 -- of `sooner`
@@ -64,7 +64,7 @@ pub record Sooner (s : List ℕ) (best : Reading) (found : Record) (r : Reading)
 
 -- of `next`: the first of the order of what is left. A record counts by its definition: where it stands is open beyond that
 pub record Nexts (s : List ℕ) (c : Cursor) (r : Reading) : Type 0 where
-  pub first : firstOf (inOrder (definitionsLeft s c (listed s 0))) ≡ chosen s r
+  pub first : firstOf (inOrder (definitionsLeft s c (listed s (firstPlace s)))) ≡ chosen s r
   pub stands : ReadingLies s r
 
 -- ---- the loop of `next`: what has been chosen so far, beside the first of those that are left from the place on
@@ -99,25 +99,25 @@ module _ (s : List ℕ) where
 
 -- ---- from record to record, where no name occurs twice
 module _ {s : List ℕ} {c : Cursor} {x : Reading} (nexts : Nexts s c x) where
-  pub next-remaining : {r : Record} → Distinct (listed s 0) → x ≡ Whole r → remaining s c ≡ definitionAt s r ∷ remaining s (Behind r)
+  pub next-remaining : {r : Record} → Distinct (listed s (firstPlace s)) → x ≡ Whole r → remaining s c ≡ definitionAt s r ∷ remaining s (Behind r)
   unfolding remaining
   next-remaining {r} distinct e = go c (nexts .first ∙ ap (chosen s) e)
     where
       m : Definition
       m = definitionAt s r
 
-      go : (c : Cursor) → firstOf (inOrder (definitionsLeft s c (listed s 0))) ≡ some m → inOrder (definitionsLeft s c (listed s 0)) ≡ m ∷ inOrder (later (m .name) (listed s 0))
-      go Start f = picked-next (listed s 0) m distinct f
+      go : (c : Cursor) → firstOf (inOrder (definitionsLeft s c (listed s (firstPlace s)))) ≡ some m → inOrder (definitionsLeft s c (listed s (firstPlace s))) ≡ m ∷ inOrder (later (m .name) (listed s (firstPlace s)))
+      go Start f = picked-next (listed s (firstPlace s)) m distinct f
       go (Behind q) f =
-          picked-next (later (nameAt s q) (listed s 0)) m (later-distinct (nameAt s q) (listed s 0) distinct) f
-          ∙ ap (λ l. m ∷ inOrder l) (later-later (nameAt s q) (m .name) (listed s 0) (first-later (nameAt s q) (listed s 0) m f))
+          picked-next (later (nameAt s q) (listed s (firstPlace s))) m (later-distinct (nameAt s q) (listed s (firstPlace s)) distinct) f
+          ∙ ap (λ l. m ∷ inOrder l) (later-later (nameAt s q) (m .name) (listed s (firstPlace s)) (first-later (nameAt s q) (listed s (firstPlace s)) m f))
 
   pub next-done : chosen s x ≡ none → remaining s c ≡ []
   unfolding remaining
-  next-done e = picked-none (definitionsLeft s c (listed s 0)) (nexts .first ∙ e)
+  next-done e = picked-none (definitionsLeft s c (listed s (firstPlace s))) (nexts .first ∙ e)
 
 -- ---- of a table that number 3 lets pass
-pub listed-distinct : (s : List ℕ) (ds : List Definition) → definitions s ≡ some ds → Distinct (listed s 0)
+pub listed-distinct : (s : List ℕ) (ds : List Definition) → definitions s ≡ some ds → Distinct (listed s (firstPlace s))
 listed-distinct s ds e = let known = definitions-some s ds e in rw (listed-records s ds (known .0)) (sound-distinct ds (known .1))
 
 pub remaining-start : (s : List ℕ) (ds : List Definition) → definitions s ≡ some ds → remaining s Start ≡ inOrder ds

@@ -1,10 +1,10 @@
 -- What stands at a place of a table.
---     readAt           a record, the table's end, or a record that goes past the end
+--     readAt           a record, the table's end, or what can't be read: a header that says nothing, a record that goes past the end
 --     Lies, Short      a record's places are in order and in the table; its parts are as long as a header can say
 --     definitionAt     the name and the LaTeX that lie there
 --     records-at       the records from a place on, by what stands there
 -- Assumes nothing.
-use mathlib.Core.Path.{_≡_, refl, ap, ap₂, _∙_}
+use mathlib.Core.Path.{_≡_, refl, sym, ap, ap₂, _∙_}
 use mathlib.Core.Bool.{Bool, true, false, cond}
 use mathlib.Core.List.{List, [], _∷_}
 use mathlib.Core.Option.{Option, none, some, Option·map}
@@ -13,36 +13,62 @@ use native.Mathlib.Omega.{arith}
 use lib.Dec.{leb, ltb}
 use lib.ListN.{length, getD, drop, length-drop, drop-of-length-le}
 use lib.Seq.{drop-drop}
-use borrow.Author.Tests.{leb-true, leb-false, ltb-true, ltb-false, le-leb, lt-leb, lt-ltb, le-ltb}
+use borrow.Author.Tests.{leb-true, leb-false, ltb-false, le-leb, lt-leb, lt-ltb, le-ltb}
 use Rattle.spec.specs.Laws.Symbols.{drop-step}
-use Rattle.spec.specs.Table.{Definition, nameLength, latexLength, definitionOf, record-before, records}
+use Rattle.spec.specs.Laws.Table.{width-some, lengths-long}
+use Rattle.spec.specs.Table.{
+  Definition,
+  Form,
+  narrow,
+  wide,
+  formOf,
+  start,
+  width,
+  Lengths,
+  narrowLengths,
+  wideLengths,
+  lengthsOf,
+  definitionOf,
+  record-before,
+  recordsBehind,
+  recordsIn,
+}
 use Rattle.text_symbols.specs.Parts.{part, length-part}
-use Rattle.table.specs.Records.{records-none, records-cut, records-cons}
+use Rattle.table.specs.Forms.{lengths-cut}
+use Rattle.table.specs.Records.{records-none, records-some}
 use Rattle.table.specs.declared.Record.{Record}
 use Rattle.table.specs.declared.Reading.{Reading}
-use Rattle.table.specs.declared.Reading.the-variants.{Whole, End, PastEnd}
+use Rattle.table.specs.declared.Reading.the-variants.{Whole, End, Unreadable}
 
--- the record at a place, of n bytes of name and l of LaTeX
-abbrev pub recordOf : ℕ → ℕ → ℕ → Record
-recordOf at n l = record { name = at + 2; latex = at + 2 + n; next = at + 2 + n + l }
+-- the record whose name begins at a place
+abbrev pub recordOf : ℕ → Lengths → Record
+recordOf name l = record { name = name; latex = name + l .name; next = name + l .name + l .latex }
 
--- behind its header, if all of it fits in
-abbrev pub fitted : List ℕ → ℕ → ℕ → ℕ → Reading
-fitted s at n l = cond (ltb (length s - (at + 2)) (n + l)) PastEnd (Whole (recordOf at n l))
+-- if all of it fits in
+abbrev pub fitted : List ℕ → ℕ → Lengths → Reading
+fitted s name l = cond (ltb (length s - name) (l .name + l .latex)) Unreadable (Whole (recordOf name l))
 
--- by a header, if both its bytes are there
-abbrev pub headed : List ℕ → ℕ → Reading
-headed s at = cond (ltb (length s - at) 2) PastEnd (fitted s at (nameLength (getD s at 0)) (latexLength (getD s at 0) (getD s (at + 1) 0)))
+-- by what the header at a place says
+abbrev pub headed : Form → List ℕ → ℕ → Option Lengths → Reading
+headed form s at none = Unreadable
+headed form s at (some l) = fitted s (at + width form) l
 
-unfoldable pub readAt : List ℕ → ℕ → Reading
-readAt s at = cond (leb (length s) at) End (headed s at)
+unfoldable pub readIn : Form → List ℕ → ℕ → Reading
+readIn form s at = cond (leb (length s) at) End (headed form s at (lengthsOf form (drop at s)))
 
--- what 6 bits and 10 bits can say
+abbrev pub readAt : List ℕ → ℕ → Reading
+readAt s at = readIn (formOf s) s at
+
+-- where the first record begins
+abbrev pub firstPlace : List ℕ → ℕ
+firstPlace s = start (formOf s)
+
+-- what 7 bits and 13 bits can say, the most of either form
 abbrev pub mostName : ℕ
-mostName = 63
+mostName = 127
 
 abbrev pub mostLatex : ℕ
-mostLatex = 1023
+mostLatex = 8191
 
 -- a record's places are in order and in the table
 pub record Lies (s : List ℕ) (r : Record) : Type 0 where
@@ -59,12 +85,23 @@ pub record Short (r : Record) : Type 0 where
 pub data ReadingLies (s : List ℕ) : Reading → Type 0 where
   whole : {r : Record} → Lies s r → Short r → ReadingLies s (Whole r)
   end : ReadingLies s End
-  past-end : ReadingLies s PastEnd
+  unreadable : ReadingLies s Unreadable
 
--- what `record_at` ensures
-pub record Reads (s : List ℕ) (at : ℕ) (r : Reading) : Type 0 where
-  pub read : r ≡ readAt s at
+-- what reading in a form ensures, and `record_at` in the table's own
+pub record ReadsIn (form : Form) (s : List ℕ) (at : ℕ) (r : Reading) : Type 0 where
+  pub read : r ≡ readIn form s at
   pub stands : ReadingLies s r
+
+abbrev pub Reads : List ℕ → ℕ → Reading → Type 0
+Reads s at r = ReadsIn (formOf s) s at r
+
+-- what `record_behind` ensures
+pub record Fits (s : List ℕ) (name n l : ℕ) (r : Reading) : Type 0 where
+  pub fits : r ≡ fitted s name (record { name = n; latex = l })
+  pub stands : ReadingLies s r
+
+pub fits-reads : {form : Form} {s : List ℕ} {at name n l : ℕ} {r : Reading} → Fits s name n l r → readIn form s at ≡ fitted s name (record { name = n; latex = l }) → ReadsIn form s at r
+fits-reads f e = record { read = f .fits ∙ sym e; stands = f .stands }
 
 pub stands-short : {s : List ℕ} {r : Record} → ReadingLies s (Whole r) → Short r
 stands-short (whole l h) = h
@@ -85,106 +122,112 @@ pub length-latex : {s : List ℕ} {r : Record} → Lies s r → length (definiti
 length-latex {s} {r} l = length-part (r .latex) (r .next - r .latex) s (omega arith)
 
 -- ---- reading by the bytes of the header
-pub read-end : (s : List ℕ) (at : ℕ) → length s ≤ at → readAt s at ≡ End
-unfolding readAt
-read-end s at h = rw (le-leb (length s) at h)
+pub read-end : (form : Form) (s : List ℕ) (at : ℕ) → length s ≤ at → readIn form s at ≡ End
+unfolding readIn
+read-end form s at h = rw (le-leb (length s) at h)
 
-pub read-cut : (s : List ℕ) (at : ℕ) → at < length s → length s - at < 2 → readAt s at ≡ PastEnd
-unfolding readAt
-read-cut s at h few = rw (lt-leb (length s) at h, lt-ltb (length s - at) 2 few)
+pub read-header : (form : Form) (s : List ℕ) (at : ℕ) → at < length s → readIn form s at ≡ headed form s at (lengthsOf form (drop at s))
+unfolding readIn
+read-header form s at h = rw (lt-leb (length s) at h)
 
-module _ (s : List ℕ) (at high low : ℕ) (e : high ≡ getD s at 0) (f : low ≡ getD s (at + 1) 0) (more : 2 ≤ length s - at) where
-  read-header : readAt s at ≡ fitted s at (nameLength high) (latexLength high low)
-  unfolding readAt
-  read-header = rw (lt-leb (length s) at (omega arith), le-ltb (length s - at) 2 more, e, f)
+pub read-cut : (form : Form) (s : List ℕ) (at : ℕ) → at < length s → length s - at < width form → readIn form s at ≡ Unreadable
+read-cut form s at h few = let l = length-drop at s in read-header form s at h ∙ ap (headed form s at) (lengths-cut form (drop at s) (omega arith))
 
-  pub read-past : length s - (at + 2) < nameLength high + latexLength high low → readAt s at ≡ PastEnd
-  read-past h = read-header ∙ rw (lt-ltb (length s - (at + 2)) (nameLength high + latexLength high low) h)
+module _ (s : List ℕ) (at : ℕ) {high : ℕ} (e : high ≡ getD s at 0) where
+  pub read-narrow : {low : ℕ} → low ≡ getD s (at + 1) 0 → at + 2 ≤ length s → readIn narrow s at ≡ fitted s (at + 2) (narrowLengths high low)
+  read-narrow {low} f more =
+      read-header narrow s at (omega arith)
+      ∙ ap (λ t. headed narrow s at (lengthsOf narrow t)) (drop-step s at (omega arith) ∙ ap₂ (λ (x : ℕ) (t : List ℕ). x ∷ t) (sym e) (drop-step s (at + 1) (omega arith) ∙ ap (λ y. y ∷ drop (at + 1 + 1) s) (sym f)))
 
-  pub read-whole : nameLength high + latexLength high low ≤ length s - (at + 2) → readAt s at ≡ Whole (recordOf at (nameLength high) (latexLength high low))
-  read-whole h = read-header ∙ rw (le-ltb (length s - (at + 2)) (nameLength high + latexLength high low) h)
+  -- the first four bits and the two lengths
+  wide-bytes :
+      {middle low : ℕ} → middle ≡ getD s (at + 1) 0 → low ≡ getD s (at + 2) 0 → at + 3 ≤ length s
+      → readIn wide s at ≡ headed wide s at (cond (ltb high 16) (some (wideLengths high middle low)) none)
+  wide-bytes {middle} {low} f g more =
+      let second : at + 1 + 1 ≡ at + 2 = omega arith in
+      read-header wide s at (omega arith)
+      ∙ ap (λ t. headed wide s at (lengthsOf wide t))
+      (drop-step s at (omega arith)
+      ∙ ap₂ (λ (x : ℕ) (t : List ℕ). x ∷ t) (sym e)
+      (drop-step s (at + 1) (omega arith)
+      ∙ ap₂ (λ (y : ℕ) (t : List ℕ). y ∷ t) (sym f) (ap (λ k. drop k s) second ∙ drop-step s (at + 2) (omega arith) ∙ ap (λ z. z ∷ drop (at + 2 + 1) s) (sym g))))
+
+  pub read-bits : {middle low : ℕ} → middle ≡ getD s (at + 1) 0 → low ≡ getD s (at + 2) 0 → at + 3 ≤ length s → 16 ≤ high → readIn wide s at ≡ Unreadable
+  read-bits {middle} {low} f g more set = wide-bytes f g more ∙ ap (λ b. headed wide s at (cond b (some (wideLengths high middle low)) none)) (le-ltb high 16 set)
+
+  pub read-wide :
+      {middle low : ℕ} → middle ≡ getD s (at + 1) 0 → low ≡ getD s (at + 2) 0 → at + 3 ≤ length s → high < 16
+      → readIn wide s at ≡ fitted s (at + 3) (wideLengths high middle low)
+  read-wide {middle} {low} f g more clear = wide-bytes f g more ∙ ap (λ b. headed wide s at (cond b (some (wideLengths high middle low)) none)) (lt-ltb high 16 clear)
+
+pub fitted-past : (s : List ℕ) (name : ℕ) (l : Lengths) → length s - name < l .name + l .latex → fitted s name l ≡ Unreadable
+fitted-past s name l h = rw (lt-ltb (length s - name) (l .name + l .latex) h)
+
+pub fitted-whole : (s : List ℕ) (name : ℕ) (l : Lengths) → l .name + l .latex ≤ length s - name → fitted s name l ≡ Whole (recordOf name l)
+fitted-whole s name l h = rw (le-ltb (length s - name) (l .name + l .latex) h)
 
 -- ---- the records from a place on
-abbrev pub recordsBy : List ℕ → Reading → Option (List Definition)
-recordsBy s (Whole r) = Option·map (λ (ds : List Definition). definitionAt s r ∷ ds) (records (drop (r .next) s))
-recordsBy s End = some []
-recordsBy s PastEnd = none
+abbrev pub recordsBy : Form → List ℕ → Reading → Option (List Definition)
+recordsBy form s (Whole r) = Option·map (λ (ds : List Definition). definitionAt s r ∷ ds) (recordsIn form (drop (r .next) s))
+recordsBy form s End = some []
+recordsBy form s Unreadable = none
 
-module _ (s : List ℕ) (at : ℕ) where
-  definition-of : (n l : ℕ) → definitionOf n l (drop (at + 2) s) ≡ definitionAt s (recordOf at n l)
-  definition-of n l =
-      let e : at + 2 + n - (at + 2) ≡ n = omega arith in
-      let f : at + 2 + n + l - (at + 2 + n) ≡ l = omega arith in
-      rw (e, f, drop-drop n (at + 2) s)
+module _ (form : Form) (s : List ℕ) where
+  module _ (name : ℕ) (l : Lengths) where
+    definition-of : definitionOf l (drop name s) ≡ definitionAt s (recordOf name l)
+    definition-of =
+        let e : name + l .name - name ≡ l .name = omega arith in
+        let f : name + l .name + l .latex - (name + l .name) ≡ l .latex = omega arith in
+        rw (e, f, drop-drop (l .name) name s)
 
-  before-at : (n l : ℕ) → record-before n l (drop (at + 2) s) (records (drop (n + l) (drop (at + 2) s))) ≡ recordsBy s (fitted s at n l)
-  before-at n l = rw (record-before, length-drop (at + 2) s) (go (ltb (length s - (at + 2)) (n + l)))
-    where
-      later : Option (List Definition)
-      later = records (drop (n + l) (drop (at + 2) s))
+    before-at : record-before l (drop name s) (recordsIn form (drop (l .name + l .latex) (drop name s))) ≡ recordsBy form s (fitted s name l)
+    before-at = rw (record-before, length-drop name s) (go (ltb (length s - name) (l .name + l .latex)))
+      where
+        later : Option (List Definition)
+        later = recordsIn form (drop (l .name + l .latex) (drop name s))
 
-      go : (t : Bool)
-          → _≡_ {A = Option (List Definition)} (elim t [ true ↦ none | false ↦ Option·map (λ (ds : List Definition). definitionOf n l (drop (at + 2) s) ∷ ds) later ]) (recordsBy s (cond t PastEnd (Whole (recordOf at n l))))
-      go true = refl
-      go false =
-          let e : at + 2 + (n + l) ≡ at + 2 + n + l = omega arith in
-          ap₂ (λ (d : Definition) (o : Option (List Definition)). Option·map (λ (ds : List Definition). d ∷ ds) o)
-          (definition-of n l)
-          (ap records (drop-drop (n + l) (at + 2) s ∙ ap (λ k. drop k s) e))
+        go : (t : Bool)
+            → _≡_ {A = Option (List Definition)} (elim t [ true ↦ none | false ↦ Option·map (λ (ds : List Definition). definitionOf l (drop name s) ∷ ds) later ]) (recordsBy form s (cond t Unreadable (Whole (recordOf name l))))
+        go true = refl
+        go false =
+            let e : name + (l .name + l .latex) ≡ name + l .name + l .latex = omega arith in
+            ap₂ (λ (d : Definition) (o : Option (List Definition)). Option·map (λ (ds : List Definition). d ∷ ds) o) definition-of
+            (ap (recordsIn form) (drop-drop (l .name + l .latex) name s ∙ ap (λ k. drop k s) e))
 
-  headed-at : at < length s → records (drop at s) ≡ recordsBy s (headed s at)
-  headed-at h = go (ltb (length s - at) 2) refl
-    where
-      high : ℕ
-      high = getD s at 0
+  module _ (at : ℕ) where
+    headed-at : (o : Option Lengths) → recordsBehind form (drop at s) (recordsIn form) o ≡ recordsBy form s (headed form s at o)
+    headed-at none = refl
+    headed-at (some l) = ap (λ rest. record-before l rest (recordsIn form (drop (l .name + l .latex) rest))) (drop-drop (width form) at s) ∙ before-at (at + width form) l
 
-      low : ℕ
-      low = getD s (at + 1) 0
+    pub records-at : recordsIn form (drop at s) ≡ recordsBy form s (readIn form s at)
+    unfolding readIn
+    records-at = go (leb (length s) at) refl
+      where
+        go : (t : Bool) → leb (length s) at ≡ t → recordsIn form (drop at s) ≡ recordsBy form s (cond t End (headed form s at (lengthsOf form (drop at s))))
+        go true e = ap (recordsIn form) (drop-of-length-le s (leb-true (length s) at e)) ∙ records-none form
+        go false e =
+            let l = length-drop at s in let more = leb-false (length s) at e in
+            records-some form (drop at s) (omega arith) ∙ headed-at (lengthsOf form (drop at s))
 
-      go : (t : Bool) → ltb (length s - at) 2 ≡ t → records (drop at s) ≡ recordsBy s (cond t PastEnd (fitted s at (nameLength high) (latexLength high low)))
-      go true e =
-          let l = ltb-true (length s - at) 2 e in
-          let behind : length s ≤ at + 1 = omega arith in
-          ap records (drop-step s at h ∙ ap (λ t. high ∷ t) (drop-of-length-le s behind)) ∙ records-cut high
-      go false e =
-          let l = ltb-false (length s - at) 2 e in
-          let m : at + 1 + 1 ≡ at + 2 = omega arith in
-          ap records (drop-step s at h ∙ ap (λ t. high ∷ t) (drop-step s (at + 1) (omega arith) ∙ ap (λ k. low ∷ drop k s) m))
-          ∙ records-cons high low (drop (at + 2) s)
-          ∙ before-at (nameLength high) (latexLength high low)
+    -- a record that is read lies behind its place, in the table
+    pub read-places : {r : Record} → readIn form s at ≡ Whole r → (at < r .name) × Lies s r
+    unfolding readIn
+    read-places {r} = go (leb (length s) at) (lengthsOf form (drop at s)) refl refl
+      where
+        fits : (l : Lengths) (t : Bool) → ltb (length s - (at + width form)) (l .name + l .latex) ≡ t → at + width form ≤ length s → 0 < width form
+            → cond t Unreadable (Whole (recordOf (at + width form) l)) ≡ Whole r → (at < r .name) × Lies s r
+        fits l true e h some-header f = let z : _≡_ {A = ℕ} 0 1 = cc in absurd (omega arith)
+        fits l false e h some-header f =
+            let b = ltb-false (length s - (at + width form)) (l .name + l .latex) e in
+            let same : recordOf (at + width form) l ≡ r = cc in
+            let name = ap (λ (q : Record). q .name) same in
+            let latex = ap (λ (q : Record). q .latex) same in
+            let next = ap (λ (q : Record). q .next) same in
+            (omega arith, record { named = omega arith; written = omega arith; inside = omega arith })
 
-  pub records-at : records (drop at s) ≡ recordsBy s (readAt s at)
-  unfolding readAt
-  records-at = go (leb (length s) at) refl
-    where
-      go : (t : Bool) → leb (length s) at ≡ t → records (drop at s) ≡ recordsBy s (cond t End (headed s at))
-      go true e = ap records (drop-of-length-le s (leb-true (length s) at e)) ∙ records-none
-      go false e = headed-at (leb-false (length s) at e)
-
-  -- a record that is read lies behind its place, in the table
-  pub read-places : {r : Record} → readAt s at ≡ Whole r → (at < r .name) × Lies s r
-  unfolding readAt
-  read-places {r} = go (leb (length s) at) (ltb (length s - at) 2) refl refl
-    where
-      n : ℕ
-      n = nameLength (getD s at 0)
-
-      l : ℕ
-      l = latexLength (getD s at 0) (getD s (at + 1) 0)
-
-      fits : (t : Bool) → ltb (length s - (at + 2)) (n + l) ≡ t → at + 2 ≤ length s → cond t PastEnd (Whole (recordOf at n l)) ≡ Whole r → (at < r .name) × Lies s r
-      fits true e h f = let z : _≡_ {A = ℕ} 0 1 = cc in absurd (omega arith)
-      fits false e h f =
-          let b = ltb-false (length s - (at + 2)) (n + l) e in
-          let same : recordOf at n l ≡ r = cc in
-          let name = ap (λ (q : Record). q .name) same in
-          let latex = ap (λ (q : Record). q .latex) same in
-          let next = ap (λ (q : Record). q .next) same in
-          (omega arith, record { named = omega arith; written = omega arith; inside = omega arith })
-
-      go : (t u : Bool) → leb (length s) at ≡ t → ltb (length s - at) 2 ≡ u → cond t End (cond u PastEnd (fitted s at n l)) ≡ Whole r → (at < r .name) × Lies s r
-      go true u e f g = let z : _≡_ {A = ℕ} 0 1 = cc in absurd (omega arith)
-      go false true e f g = let z : _≡_ {A = ℕ} 0 1 = cc in absurd (omega arith)
-      go false false e f g =
-          let b = leb-false (length s) at e in let d = ltb-false (length s - at) 2 f in
-          fits (ltb (length s - (at + 2)) (n + l)) refl (omega arith) g
+        go : (t : Bool) (o : Option Lengths) → leb (length s) at ≡ t → lengthsOf form (drop at s) ≡ o → cond t End (headed form s at o) ≡ Whole r → (at < r .name) × Lies s r
+        go true o e f g = let z : _≡_ {A = ℕ} 0 1 = cc in absurd (omega arith)
+        go false none e f g = let z : _≡_ {A = ℕ} 0 1 = cc in absurd (omega arith)
+        go false (some l) e f g =
+            let b = leb-false (length s) at e in let d = length-drop at s in let w = lengths-long form (drop at s) f in
+            fits l (ltb (length s - (at + width form)) (l .name + l .latex)) refl (omega arith) (width-some form) g

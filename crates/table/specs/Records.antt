@@ -1,39 +1,39 @@
--- Laws of `records`: what the first bytes of a table say of all its records. Assumes nothing.
+-- Laws of `recordsIn`: what the first header says of all records behind it. Assumes nothing.
 use mathlib.Core.Path.{_≡_, refl, ap}
 use mathlib.Core.List.{List, [], _∷_}
-use mathlib.Core.Option.{none, some}
-use Prim.Native.Nat.{ℕ, zero, suc, _+_, _≤_}
+use mathlib.Core.Option.{Option, none, some}
+use Prim.Native.Nat.{ℕ, zero, suc, _+_, _≤_, _<_}
 use native.Mathlib.Omega.{arith}
 use lib.ListN.{length, drop, length-drop}
-use Rattle.spec.specs.Table.{nameLength, latexLength, record-before, recordsWith, records}
+use Rattle.spec.specs.Table.{Definition, Form, width, Lengths, lengthsOf, record-before, recordsBehind, recordsWith, recordsIn}
+use Rattle.spec.specs.Laws.Table.{width-some}
+
+-- what follows the first record is shorter
+behind-alike :
+    (form : Form) (x : ℕ) (s : List ℕ) {f g : List ℕ → Option (List Definition)} → ((t : List ℕ) → length t ≤ length s → f t ≡ g t) → (o : Option Lengths)
+    → recordsBehind form (x ∷ s) f o ≡ recordsBehind form (x ∷ s) g o
+behind-alike form x s alike none = refl
+behind-alike form x s alike (some l) =
+    let rest = drop (width form) (x ∷ s) in
+    let some-header = width-some form in let a = length-drop (width form) (x ∷ s) in let b = length-drop (l .name + l .latex) rest in
+    ap (record-before l rest) (alike (drop (l .name + l .latex) rest) (omega arith))
 
 -- two bounds on the number of records that are both high enough
-enough : (k m : ℕ) (s : List ℕ) → length s ≤ k → length s ≤ m → recordsWith k s ≡ recordsWith m s
+enough : (form : Form) (k m : ℕ) (s : List ℕ) → length s ≤ k → length s ≤ m → recordsWith form k s ≡ recordsWith form m s
 unfolding recordsWith
-enough zero zero s h g = refl
-enough zero (suc m) [] h g = refl
-enough zero (suc m) (x ∷ s) h g = absurd (omega arith)
-enough (suc k) zero [] h g = refl
-enough (suc k) zero (x ∷ s) h g = absurd (omega arith)
-enough (suc k) (suc m) [] h g = refl
-enough (suc k) (suc m) (x ∷ []) h g = refl
-enough (suc k) (suc m) (high ∷ low ∷ s) h g =
-    let n = nameLength high + latexLength high low in
-    let l = length-drop n s in
-    ap (record-before (nameLength high) (latexLength high low) s) (enough k m (drop n s) (omega arith) (omega arith))
+enough form zero zero s h g = refl
+enough form zero (suc m) [] h g = refl
+enough form zero (suc m) (x ∷ s) h g = absurd (omega arith)
+enough form (suc k) zero [] h g = refl
+enough form (suc k) zero (x ∷ s) h g = absurd (omega arith)
+enough form (suc k) (suc m) [] h g = refl
+enough form (suc k) (suc m) (x ∷ s) h g = behind-alike form x s (λ t short. enough form k m t (omega arith) (omega arith)) (lengthsOf form (x ∷ s))
 
-pub records-none : records [] ≡ some []
-unfolding records recordsWith
-records-none = refl
+pub records-none : (form : Form) → recordsIn form [] ≡ some []
+unfolding recordsIn recordsWith
+records-none form = refl
 
-pub records-cut : (x : ℕ) → records (x ∷ []) ≡ none
-unfolding records recordsWith
-records-cut x = refl
-
-pub records-cons : (high low : ℕ) (s : List ℕ)
-    → records (high ∷ low ∷ s) ≡ record-before (nameLength high) (latexLength high low) s (records (drop (nameLength high + latexLength high low) s))
-unfolding records recordsWith
-records-cons high low s =
-    let n = nameLength high + latexLength high low in
-    let l = length-drop n s in
-    ap (record-before (nameLength high) (latexLength high low) s) (enough (suc (length s)) (length (drop n s)) (drop n s) (omega arith) (omega arith))
+pub records-some : (form : Form) (s : List ℕ) → 0 < length s → recordsIn form s ≡ recordsBehind form s (recordsIn form) (lengthsOf form s)
+unfolding recordsIn recordsWith
+records-some form [] h = absurd (omega arith)
+records-some form (x ∷ s) h = behind-alike form x s (λ t short. enough form (length s) (length t) t short (omega arith)) (lengthsOf form (x ∷ s))

@@ -2,6 +2,7 @@
 // picked from the table where it lies.
 use super::Reading;
 use super::Record;
+use super::first_place;
 use super::record_at;
 ghost use mathlib.Core.Path.{_≡_};
 ghost use Rattle.spec.specs.Table.{lower, precedes as precedesName};
@@ -87,7 +88,7 @@ pub fn next(table: &[u8], cursor: Cursor) -> Reading
     ensures { λ r. ⌜ Nexts (now (table .entry)) cursor r ⌝ }
 {
     let mut best = Reading::End;
-    let mut at = 0;
+    let mut at = first_place(table);
     loop {
         let Reading::Whole(found) = record_at(table, at) else {
             return best;

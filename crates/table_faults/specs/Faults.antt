@@ -1,5 +1,5 @@
 -- The faults of a table, as the check meets them one after another.
---     overfull         a record goes past the end, or with those counted before there are too many
+--     overfull         a record can't be read, or with those counted before there are too many
 --     faultyFirst      a record has a fault of its own, or the name of one of those behind it
 -- Assumes nothing.
 use mathlib.Core.Path.{_≡_, refl, ap, ap₂, _∙_}
@@ -14,12 +14,12 @@ use lib.ListN.{length, getD, drop}
 use borrow.Author.Tests.{lt-ltb, le-ltb}
 use Rattle.spec.specs.Symbols.{letter, alnum, all}
 use Rattle.spec.specs.Laws.Symbols.{head-drop}
-use Rattle.spec.specs.Table.{Definition, mostBytes, mostRecords, records, faultyName, faultyLatex, named, faulty, whole, definitions}
-use Rattle.table.specs.Reading.{readAt, recordsBy, records-at, definitionAt}
+use Rattle.spec.specs.Table.{Definition, formOf, mostBytes, mostRecords, recordsIn, records, faultyName, faultyLatex, named, faulty, whole, definitions}
+use Rattle.table.specs.Reading.{readAt, firstPlace, recordsBy, records-at, definitionAt}
 use Rattle.table.specs.Listed.{listed, listed-records}
 use Rattle.table.specs.Sound.{refused}
 use Rattle.table.specs.declared.Record.{Record}
-use Rattle.table.specs.declared.Reading.the-variants.{Whole, End, PastEnd}
+use Rattle.table.specs.declared.Reading.the-variants.{Whole, End, Unreadable}
 
 abbrev pub overfull : ℕ → Option (List Definition) → Bool
 overfull c none = true
@@ -37,21 +37,21 @@ faulty-within name e = ap (λ t. not (t && all alnum name)) (ap letter (head-dro
 
 -- ---- how many records there are
 module _ (s : List ℕ) (at c : ℕ) where
-  pub overfull-whole : {r : Record} → readAt s at ≡ Whole r → overfull c (records (drop at s)) ≡ overfull (c + 1) (records (drop (r .next) s))
-  overfull-whole {r} e = ap (overfull c) (records-at s at ∙ ap (recordsBy s) e) ∙ go (records (drop (r .next) s))
+  pub overfull-whole : {r : Record} → readAt s at ≡ Whole r → overfull c (recordsIn (formOf s) (drop at s)) ≡ overfull (c + 1) (recordsIn (formOf s) (drop (r .next) s))
+  overfull-whole {r} e = ap (overfull c) (records-at (formOf s) s at ∙ ap (recordsBy (formOf s) s) e) ∙ go (recordsIn (formOf s) (drop (r .next) s))
     where
       go : (o : Option (List Definition)) → overfull c (Option·map (λ (ds : List Definition). definitionAt s r ∷ ds) o) ≡ overfull (c + 1) o
       go none = refl
       go (some ds) = let n : c + suc (length ds) ≡ c + 1 + length ds = omega arith in ap (ltb mostRecords) n
 
-  pub overfull-end : c ≤ mostRecords → readAt s at ≡ End → overfull c (records (drop at s)) ≡ false
-  overfull-end h e = ap (overfull c) (records-at s at ∙ ap (recordsBy s) e) ∙ le-ltb mostRecords (c + 0) (omega arith)
+  pub overfull-end : c ≤ mostRecords → readAt s at ≡ End → overfull c (recordsIn (formOf s) (drop at s)) ≡ false
+  overfull-end h e = ap (overfull c) (records-at (formOf s) s at ∙ ap (recordsBy (formOf s) s) e) ∙ le-ltb mostRecords (c + 0) (omega arith)
 
-  pub overfull-past : readAt s at ≡ PastEnd → overfull c (records (drop at s)) ≡ true
-  overfull-past e = ap (overfull c) (records-at s at ∙ ap (recordsBy s) e)
+  pub overfull-unreadable : readAt s at ≡ Unreadable → overfull c (recordsIn (formOf s) (drop at s)) ≡ true
+  overfull-unreadable e = ap (overfull c) (records-at (formOf s) s at ∙ ap (recordsBy (formOf s) s) e)
 
-  pub overfull-many : mostRecords < c → overfull c (records (drop at s)) ≡ true
-  overfull-many h = go (records (drop at s))
+  pub overfull-many : mostRecords < c → overfull c (recordsIn (formOf s) (drop at s)) ≡ true
+  overfull-many h = go (recordsIn (formOf s) (drop at s))
     where
       go : (o : Option (List Definition)) → overfull c o ≡ true
       go none = refl
@@ -85,7 +85,7 @@ pub refused-long : (s : List ℕ) → mostBytes < length s → refused (definiti
 unfolding definitions
 refused-long s h = ap (λ t. refused (checked s t)) (lt-ltb mostBytes (length s) h)
 
-pub refused-else : (s : List ℕ) → length s ≤ mostBytes → refused (definitions s) ≡ (overfull 0 (records s) || faulty (listed s 0))
+pub refused-else : (s : List ℕ) → length s ≤ mostBytes → refused (definitions s) ≡ (overfull 0 (records s) || faulty (listed s (firstPlace s)))
 unfolding definitions
 refused-else s h = ap (λ t. refused (checked s t)) (le-ltb mostBytes (length s) h) ∙ go (records s) refl
   where
@@ -93,6 +93,6 @@ refused-else s h = ap (λ t. refused (checked s t)) (le-ltb mostBytes (length s)
     judged ds true = refl
     judged ds false = refl
 
-    go : (o : Option (List Definition)) → records s ≡ o → refused (whole o) ≡ (overfull 0 o || faulty (listed s 0))
+    go : (o : Option (List Definition)) → records s ≡ o → refused (whole o) ≡ (overfull 0 o || faulty (listed s (firstPlace s)))
     go none e = refl
     go (some ds) e = rw (listed-records s ds e, zero-add (length ds)) (judged ds (ltb mostRecords (length ds) || faulty ds))

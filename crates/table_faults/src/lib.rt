@@ -1,11 +1,12 @@
 // Number 3: what makes a table faulty. The records are counted first, so that what follows looks at no more than 64.
 use table::Reading;
 use table::Record;
+use table::first_place;
 use table::record_at;
 use text_symbols::Class;
 ghost use mathlib.Core.Path.{_≡_};
 ghost use Rattle.spec.specs.Table.{records, definitions, faultyName, faultyLatex, named, faulty};
-ghost use Rattle.table.specs.Reading.{Lies, definitionAt};
+ghost use Rattle.table.specs.Reading.{Lies, firstPlace, definitionAt};
 ghost use Rattle.table.specs.Listed.{listed};
 ghost use Rattle.table.specs.Sound.{refused};
 ghost use Rattle.table_faults.specs.Faults.{overfull, faultyFirst};
@@ -28,11 +29,11 @@ pub fn is_faulty(table: &[u8]) -> bool
     has_faulty_record(table)
 }
 
-// Whether a record goes past the end, or there are too many.
+// Whether a record can't be read, or there are too many.
 fn is_overfull(table: &[u8]) -> bool
     ensures { λ r. ⌜ r ≡ overfull 0 (records (now (table .entry))) ⌝ }
 {
-    let mut at = 0;
+    let mut at = first_place(table);
     let mut count = 0;
     while count <= MOST_RECORDS {
         match record_at(table, at) {
@@ -43,7 +44,7 @@ fn is_overfull(table: &[u8]) -> bool
             Reading::End => {
                 return false;
             }
-            Reading::PastEnd => {
+            Reading::Unreadable => {
                 return true;
             }
         }
@@ -53,9 +54,9 @@ fn is_overfull(table: &[u8]) -> bool
 
 // Whether one of the records has a fault of its own, or the name of a later one.
 fn has_faulty_record(table: &[u8]) -> bool
-    ensures { λ r. ⌜ r ≡ faulty (listed (now (table .entry)) 0) ⌝ }
+    ensures { λ r. ⌜ r ≡ faulty (listed (now (table .entry)) (firstPlace (now (table .entry)))) ⌝ }
 {
-    let mut at = 0;
+    let mut at = first_place(table);
     loop {
         let Reading::Whole(found) = record_at(table, at) else {
             return false;

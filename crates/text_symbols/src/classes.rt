@@ -6,7 +6,7 @@ ghost use Rattle.spec.specs.Symbols.{between, blank, letter, digit, alnum, word
 ghost use Rattle.text_symbols.specs.Runs.{member};
 
 // A symbol as a number. A caller that asks so need not show that a byte fits.
-pub fn wide(b: u8) -> usize
+pub fn value(b: u8) -> usize
     ensures { λ r. ⌜ (r ≡ b) × (r < 256) ⌝ }
 {
     b as usize

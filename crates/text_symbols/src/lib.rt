@@ -9,7 +9,7 @@ pub use classes::is_digit;
 pub use classes::is_letter;
 pub use classes::is_script_sign;
 pub use classes::is_word;
-pub use classes::wide;
+pub use classes::value;
 pub use runs::all_in;
 pub use runs::run_end;
 pub use runs::run_start;

@@ -1,5 +1,7 @@
 -- Laws of tables: what does not depend on the order of their records, and what number 3 and admission make of them. Assumes nothing.
---     records-long, bytes-same, length-same, faulty-same    the same records in whatever order are as long, as many and as faulty
+--     records-long          a table is as long as its form makes its records
+--     bytes-wide            the wide form takes a byte more for each record
+--     bytes-same, length-same, faulty-same    the same records in whatever order are as long, as many and as faulty
 --     definitions-unless    number 3, by the records
 --     definitions-some      the definitions of a table are its records, none of them faulty
 --     admitted-same         of the table, admission asks only whether it is readable
@@ -11,7 +13,7 @@ use mathlib.Core.List.{List, [], _∷_, _++_}
 use mathlib.Core.Option.{Option, none, some, Option·map, Option·none-ne-some, Option·some-injective}
 use Prim.Native.Nat.{ℕ, zero, suc, _+_, _≤_, _<_}
 use native.Mathlib.Omega.{arith}
-use lib.Dec.{ltb}
+use lib.Dec.{eqb, ltb}
 use lib.ListN.{length, drop, length-take, length-drop}
 use borrow.Author.Tests.{ltb-false}
 use Rattle.spec.specs.Symbols.{any, foreign, same}
@@ -20,10 +22,18 @@ use Rattle.spec.specs.Table.{
   Definition,
   mostBytes,
   mostRecords,
-  nameLength,
-  latexLength,
+  Form,
+  narrow,
+  wide,
+  formOf,
+  start,
+  width,
+  Lengths,
+  lengthsOf,
   definitionOf,
+  recordsBehind,
   recordsWith,
+  recordsIn,
   records,
   faultyName,
   faultyLatex,
@@ -41,18 +51,22 @@ use Rattle.spec.specs.Laws.Names.{same-sym}
 use Rattle.spec.specs.Laws.Order.{named-put, named-same, Distinct}
 
 -- ---- how long it is
--- the bytes of records: a header of two, the name, the LaTeX
-abbrev pub bytesOfRecords : List Definition → ℕ
-bytesOfRecords [] = 0
-bytesOfRecords (d ∷ ds) = 2 + (length (d .name) + length (d .latex)) + bytesOfRecords ds
+-- the bytes of records: a header, the name, the LaTeX
+abbrev pub bytesOfRecords : Form → List Definition → ℕ
+bytesOfRecords form [] = 0
+bytesOfRecords form (d ∷ ds) = width form + (length (d .name) + length (d .latex)) + bytesOfRecords form ds
 
-bytes-put : (d : Definition) (es fs : List Definition) → bytesOfRecords (es ++ d ∷ fs) ≡ bytesOfRecords (d ∷ (es ++ fs))
-bytes-put d [] fs = refl
-bytes-put d (e ∷ es) fs = let h = bytes-put d es fs in omega arith
+pub bytes-wide : (ds : List Definition) → bytesOfRecords wide ds ≡ bytesOfRecords narrow ds + length ds
+bytes-wide [] = refl
+bytes-wide (d ∷ ds) = let h = bytes-wide ds in omega arith
 
-pub bytes-same : {ds es : List Definition} → Rearranged ds es → bytesOfRecords ds ≡ bytesOfRecords es
-bytes-same nothing = refl
-bytes-same (put d es fs r) = ap (λ n. 2 + (length (d .name) + length (d .latex)) + n) (bytes-same r) ∙ sym (bytes-put d es fs)
+bytes-put : (form : Form) (d : Definition) (es fs : List Definition) → bytesOfRecords form (es ++ d ∷ fs) ≡ bytesOfRecords form (d ∷ (es ++ fs))
+bytes-put form d [] fs = refl
+bytes-put form d (e ∷ es) fs = let h = bytes-put form d es fs in omega arith
+
+pub bytes-same : (form : Form) {ds es : List Definition} → Rearranged ds es → bytesOfRecords form ds ≡ bytesOfRecords form es
+bytes-same form nothing = refl
+bytes-same form (put d es fs r) = ap (λ n. width form + (length (d .name) + length (d .latex)) + n) (bytes-same form r) ∙ sym (bytes-put form d es fs)
 
 length-put : (d : Definition) (es fs : List Definition) → length (es ++ d ∷ fs) ≡ suc (length (es ++ fs))
 length-put d [] fs = refl
@@ -62,41 +76,73 @@ pub length-same : {ds es : List Definition} → Rearranged ds es → length ds �
 length-same nothing = refl
 length-same (put d es fs r) = ap suc (length-same r) ∙ sym (length-put d es fs)
 
-records-with-long : (k : ℕ) (s : List ℕ) (ds : List Definition) → length s ≤ k → recordsWith k s ≡ some ds → length s ≡ bytesOfRecords ds
-unfolding recordsWith
-records-with-long zero [] ds h e = let q : [] ≡ ds = cc in ap bytesOfRecords q
-records-with-long zero (x ∷ s) ds h e = absurd (omega arith)
-records-with-long (suc k) [] ds h e = let q : [] ≡ ds = cc in ap bytesOfRecords q
-records-with-long (suc k) (x ∷ []) ds h e = absurd (Option·none-ne-some ds e)
-records-with-long (suc k) (high ∷ low ∷ rest) ds h e =
-    go (ltb (length rest) (n + l)) refl (recordsWith k (drop (n + l) rest)) refl (records-with-long k (drop (n + l) rest)) e
+-- a header that is read is whole
+pub lengths-long : (form : Form) (s : List ℕ) {l : Lengths} → lengthsOf form s ≡ some l → width form ≤ length s
+lengths-long narrow [] {l} e = absurd (Option·none-ne-some l e)
+lengths-long narrow (x ∷ []) {l} e = absurd (Option·none-ne-some l e)
+lengths-long narrow (x ∷ y ∷ s) e = omega arith
+lengths-long wide [] {l} e = absurd (Option·none-ne-some l e)
+lengths-long wide (x ∷ []) {l} e = absurd (Option·none-ne-some l e)
+lengths-long wide (x ∷ y ∷ []) {l} e = absurd (Option·none-ne-some l e)
+lengths-long wide (x ∷ y ∷ z ∷ s) e = omega arith
+
+pub width-some : (form : Form) → 0 < width form
+width-some narrow = omega arith
+width-some wide = omega arith
+
+pub start-within : (table : List ℕ) → start (formOf table) ≤ length table
+start-within [] = omega arith
+start-within (x ∷ table) = go (eqb x 0)
   where
-    n : ℕ
-    n = nameLength high
+    go : (b : Bool) → start (elim b as (λ _. Form) [ true ↦ wide | false ↦ narrow ]) ≤ suc (length table)
+    go true = omega arith
+    go false = omega arith
 
-    l : ℕ
-    l = latexLength high low
+records-with-long : (form : Form) (k : ℕ) (s : List ℕ) (ds : List Definition) → length s ≤ k → recordsWith form k s ≡ some ds → length s ≡ bytesOfRecords form ds
+unfolding recordsWith
+records-with-long form zero [] ds h e = let q : [] ≡ ds = cc in ap (bytesOfRecords form) q
+records-with-long form zero (x ∷ s) ds h e = absurd (omega arith)
+records-with-long form (suc k) [] ds h e = let q : [] ≡ ds = cc in ap (bytesOfRecords form) q
+records-with-long form (suc k) (x ∷ s) ds h e = by-header (lengthsOf form (x ∷ s)) refl (records-with-long form k) e
+  where
+    by-header : (o : Option Lengths) → lengthsOf form (x ∷ s) ≡ o
+        → ((t : List ℕ) (es : List Definition) → length t ≤ k → recordsWith form k t ≡ some es → length t ≡ bytesOfRecords form es)
+        → recordsBehind form (x ∷ s) (λ t. recordsWith form k t) o ≡ some ds → suc (length s) ≡ bytesOfRecords form ds
+    by-header none r later e = absurd (Option·none-ne-some ds e)
+    by-header (some l) r later e = go (ltb (length rest) n) refl (recordsWith form k (drop n rest)) refl e
+      where
+        n : ℕ
+        n = l .name + l .latex
 
-    go : (past : Bool) → ltb (length rest) (n + l) ≡ past → (o : Option (List Definition)) → recordsWith k (drop (n + l) rest) ≡ o
-        → ((es : List Definition) → length (drop (n + l) rest) ≤ k → recordsWith k (drop (n + l) rest) ≡ some es → length (drop (n + l) rest) ≡ bytesOfRecords es)
-        → elim past as (λ _. Option (List Definition)) [ true ↦ none | false ↦ Option·map (λ (es : List Definition). definitionOf n l rest ∷ es) o ] ≡ some ds
-        → suc (suc (length rest)) ≡ bytesOfRecords ds
-    go true p o r later e = absurd (Option·none-ne-some ds e)
-    go false p none r later e = absurd (Option·none-ne-some ds e)
-    go false p (some es) r later e =
-        let fits = ltb-false (length rest) (n + l) p in
-        let d = length-drop (n + l) rest in
-        let a = length-take n rest in
-        let b = length-take l (drop n rest) in
-        let c = length-drop n rest in
-        let rest-long = later es (omega arith) r in
-        let q : definitionOf n l rest ∷ es ≡ ds = cc in
-        let whole : suc (suc (length rest)) ≡ bytesOfRecords (definitionOf n l rest ∷ es) = omega arith in
-        whole ∙ ap bytesOfRecords q
+        rest : List ℕ
+        rest = drop (width form) (x ∷ s)
 
-pub records-long : (s : List ℕ) (ds : List Definition) → records s ≡ some ds → length s ≡ bytesOfRecords ds
-unfolding records
-records-long s ds e = records-with-long (length s) s ds (omega arith) e
+        go : (past : Bool) → ltb (length rest) n ≡ past → (o : Option (List Definition)) → recordsWith form k (drop n rest) ≡ o
+            → elim past as (λ _. Option (List Definition)) [ true ↦ none | false ↦ Option·map (λ (es : List Definition). definitionOf l rest ∷ es) o ] ≡ some ds
+            → suc (length s) ≡ bytesOfRecords form ds
+        go true p o q e = absurd (Option·none-ne-some ds e)
+        go false p none q e = absurd (Option·none-ne-some ds e)
+        go false p (some es) q e =
+            let fits = ltb-false (length rest) n p in
+            let long = lengths-long form (x ∷ s) r in
+            let some-header = width-some form in
+            let m = length-drop (width form) (x ∷ s) in
+            let d = length-drop n rest in
+            let a = length-take (l .name) rest in
+            let b = length-take (l .latex) (drop (l .name) rest) in
+            let c = length-drop (l .name) rest in
+            let rest-long = later (drop n rest) es (omega arith) q in
+            let same : definitionOf l rest ∷ es ≡ ds = cc in
+            let whole : suc (length s) ≡ bytesOfRecords form (definitionOf l rest ∷ es) = omega arith in
+            whole ∙ ap (bytesOfRecords form) same
+
+pub records-long : (table : List ℕ) (ds : List Definition) → records table ≡ some ds → length table ≡ start (formOf table) + bytesOfRecords (formOf table) ds
+unfolding recordsIn
+records-long table ds e =
+    let behind = drop (start (formOf table)) table in
+    let l = length-drop (start (formOf table)) table in let s = start-within table in
+    let b = records-with-long (formOf table) (length behind) behind ds (omega arith) e in
+    omega arith
 
 -- ---- its faults
 faults-swap : (a b s m c d n f : Bool) → a || (b || ((s || m) || (c || (d || (n || f))))) ≡ c || (d || ((s || n) || (a || (b || (m || f)))))

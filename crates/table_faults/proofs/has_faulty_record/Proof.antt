@@ -1,12 +1,12 @@
 -- `table_faults::has_faulty_record` meets its contract. The loop's invariant: the records from `at` on decide. Assumes nothing.
-use Rattle.table.specs.Reading.{definitionAt}
+use Rattle.table.specs.Reading.{firstPlace, definitionAt}
 use Rattle.table.specs.Listed.{listed, Heads, heads}
 use Rattle.table_faults.specs.Faults.{faulty-cons}
 use Rattle.table.proofs.Tags.{listed-none}
 use Rattle.spec.specs.Table.{faulty}
 use lib.ListN.{length}
 use mathlib.Core.Bool.{Bool, _||_}
-use mathlib.Core.Path.{_≡_, refl, sym, ap, _∙_}
+use mathlib.Core.Path.{_≡_, sym, ap, _∙_}
 use Prim.Native.Nat.{_-_}
 use native.Mathlib.Omega.{arith}
 use borrow.Author.Needs.{needs}
@@ -14,10 +14,13 @@ use Rattle.table_faults.proofs.has_faulty_record.Statement.{statement}
 use Rattle.table_faults.proofs.has_faulty_record.Tie as tie
 
 abbrev Inv-loop : tie.InvT-loop
-Inv-loop table at₀ at = faulty (listed table 0) ≡ faulty (listed table at)
+Inv-loop table at₀ at = faulty (listed table (firstPlace table)) ≡ faulty (listed table at)
 
 abbrev μ-loop : tie.MeasureT-loop
 μ-loop table at₀ at = length table - at
+
+loop-holds : tie.Need-loop-holds Inv-loop μ-loop
+loop-holds c = let at-start : tie.Start Inv-loop μ-loop = search in ap (λ at. faulty (listed (at-start .args .table .now) at)) (sym (c .first-place .ensures))
 
 returns : tie.Need-returns Inv-loop μ-loop
 unfolding faulty
@@ -33,7 +36,7 @@ is-faulty-record-requires c κs = here c .lies
 
 -- the record that has been read decides, if it is faulty, and else those behind it
 decides : (c : tie.After-is-faulty-record Inv-loop μ-loop) (t : Bool) → (let at-start : tie.Start Inv-loop μ-loop = search in c .is-faulty-record .result ≡ t
-    → faulty (listed (at-start .args .table .now) 0)
+    → faulty (listed (at-start .args .table .now) (firstPlace (at-start .args .table .now)))
     ≡ (t || faulty (listed (at-start .args .table .now) (c .before .before .found .given .0 .0 .next))))
 decides c t e =
     let at-loop : tie.At-loop Inv-loop μ-loop = search in
@@ -60,7 +63,8 @@ has-faulty-record-spec =
     (tie.spec
     Inv-loop
     μ-loop
-    (λ c. refl)
+    (λ c κs. search needs)
+    loop-holds
     (λ c κs. search needs)
     (λ c. search needs)
     returns

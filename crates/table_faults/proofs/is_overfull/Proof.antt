@@ -1,9 +1,9 @@
 -- `table_faults::is_overfull` meets its contract. The loop's invariant: the records from `at` on decide, with those counted. Assumes nothing.
-use Rattle.table_faults.specs.Faults.{overfull, overfull-whole, overfull-end, overfull-past, overfull-many}
+use Rattle.table_faults.specs.Faults.{overfull, overfull-whole, overfull-end, overfull-unreadable, overfull-many}
 use Rattle.table.specs.Listed.{heads}
-use Rattle.spec.specs.Table.{records}
+use Rattle.spec.specs.Table.{formOf, recordsIn, records}
 use lib.ListN.{length, drop}
-use mathlib.Core.Path.{_≡_, refl, sym, _∙_}
+use mathlib.Core.Path.{_≡_, sym, ap, _∙_}
 use Prim.Native.Nat.{_-_}
 use native.Mathlib.Omega.{arith}
 use borrow.Author.Needs.{needs}
@@ -11,10 +11,16 @@ use Rattle.table_faults.proofs.is_overfull.Statement.{statement}
 use Rattle.table_faults.proofs.is_overfull.Tie as tie
 
 abbrev Inv-loop : tie.InvT-loop
-Inv-loop table at₀ count₀ at count = overfull 0 (records table) ≡ overfull count (records (drop at table))
+Inv-loop table at₀ count₀ at count = overfull 0 (records table) ≡ overfull count (recordsIn (formOf table) (drop at table))
 
 abbrev μ-loop : tie.MeasureT-loop
 μ-loop table at₀ count₀ at count = length table - at
+
+loop-holds : tie.Need-loop-holds Inv-loop μ-loop
+loop-holds c =
+    let at-start : tie.Start Inv-loop μ-loop = search in
+    let s = at-start .args .table .now in
+    ap (λ at. overfull 0 (recordsIn (formOf s) (drop at s))) (sym (c .first-place .ensures))
 
 loop-less : tie.Need-loop-less Inv-loop μ-loop
 loop-less c =
@@ -24,29 +30,30 @@ loop-less c =
 
 loop-again : tie.Need-loop-again Inv-loop μ-loop
 loop-again c =
-    let call = c .before .before .before in
-    let l = call .before .before in
-    let read = sym (call .record-at .ensures .read) ∙ c .before .found .given .1 in
-    l .loop .inv ∙ overfull-whole (l .before .before .args .table .now) (l .loop .at) (l .loop .count) read
+    let at-loop : tie.At-loop Inv-loop μ-loop = search in
+    let at-start : tie.Start Inv-loop μ-loop = search in
+    let read = sym (c .before .before .before .record-at .ensures .read) ∙ c .before .found .given .1 in
+    at-loop .loop .inv ∙ overfull-whole (at-start .args .table .now) (at-loop .loop .at) (at-loop .loop .count) read
 
 returns : tie.Need-returns Inv-loop μ-loop
 returns c =
-    let call = c .before .before in
-    let l = call .before .before in
-    let read = sym (call .record-at .ensures .read) ∙ c .enum-told .given .1 in
-    sym (l .loop .inv ∙ overfull-end (l .before .before .args .table .now) (l .loop .at) (l .loop .count) (omega arith) read)
+    let at-loop : tie.At-loop Inv-loop μ-loop = search in
+    let at-start : tie.Start Inv-loop μ-loop = search in
+    let read = sym (c .before .before .record-at .ensures .read) ∙ c .enum-told .given .1 in
+    sym (at-loop .loop .inv ∙ overfull-end (at-start .args .table .now) (at-loop .loop .at) (at-loop .loop .count) (omega arith) read)
 
 returns-2 : tie.Need-returns-2 Inv-loop μ-loop
 returns-2 c =
-    let call = c .before .before in
-    let l = call .before .before in
-    let read = sym (call .record-at .ensures .read) ∙ c .enum-told2 .given .1 in
-    sym (l .loop .inv ∙ overfull-past (l .before .before .args .table .now) (l .loop .at) (l .loop .count) read)
+    let at-loop : tie.At-loop Inv-loop μ-loop = search in
+    let at-start : tie.Start Inv-loop μ-loop = search in
+    let read = sym (c .before .before .record-at .ensures .read) ∙ c .enum-told2 .given .1 in
+    sym (at-loop .loop .inv ∙ overfull-unreadable (at-start .args .table .now) (at-loop .loop .at) (at-loop .loop .count) read)
 
 returns-3 : tie.Need-returns-3 Inv-loop μ-loop
 returns-3 c =
-    let l = c .before in
-    sym (l .loop .inv ∙ overfull-many (l .before .before .args .table .now) (l .loop .at) (l .loop .count) (omega arith))
+    let at-loop : tie.At-loop Inv-loop μ-loop = search in
+    let at-start : tie.Start Inv-loop μ-loop = search in
+    sym (at-loop .loop .inv ∙ overfull-many (at-start .args .table .now) (at-loop .loop .at) (at-loop .loop .count) (omega arith))
 
 pub is-overfull-spec : {M : Type 1} → statement M
 is-overfull-spec =
@@ -54,7 +61,8 @@ is-overfull-spec =
     (tie.spec
     Inv-loop
     μ-loop
-    (λ c. refl)
+    (λ c κs. search needs)
+    loop-holds
     (λ c κs. search needs)
     (λ c. search needs)
     (λ c. omega arith)

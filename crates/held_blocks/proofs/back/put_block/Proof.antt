@@ -7,29 +7,29 @@ use Rattle.held_blocks.proofs.back.put_block.Tie as tie
 
 copy-requires : tie.Need-copy-requires
 copy-requires c κs =
-    let at-wide2 : tie.After-wide2 = search in
-    let at-wide : tie.After-wide = search in
+    let at-value2 : tie.After-value2 = search in
+    let at-value : tie.After-value = search in
     let at-start : tie.Start = search in
     let f = at-start .pre .1 .0 in
     let inside = f .inside in
     let region = at-start .pre .1 .1 in
     let room = at-start .pre .0 in
-    let e1 = at-wide .wide .ensures .0 in
-    let e2 = at-wide2 .wide2 .ensures .0 in
-    let e3 = c .before .before .before .wide3 .ensures .0 in
-    let e4 = c .before .wide4 .ensures .0 in
+    let e1 = at-value .value .ensures .0 in
+    let e2 = at-value2 .value2 .ensures .0 in
+    let e3 = c .before .before .before .value3 .ensures .0 in
+    let e4 = c .before .value4 .ensures .0 in
     (record { region = room .region; small = omega arith }, (omega arith, inr (omega arith)))
 
 returns : tie.Need-returns
 returns c =
-    let at-wide4 : tie.After-wide4 = search in
-    let at-wide3 : tie.After-wide3 = search in
-    let at-wide2 : tie.After-wide2 = search in
-    let at-wide : tie.After-wide = search in
-    let e1 = at-wide .wide .ensures .0 in
-    let e2 = at-wide2 .wide2 .ensures .0 in
-    let e3 = at-wide3 .wide3 .ensures .0 in
-    let e4 = at-wide4 .wide4 .ensures .0 in
+    let at-value4 : tie.After-value4 = search in
+    let at-value3 : tie.After-value3 = search in
+    let at-value2 : tie.After-value2 = search in
+    let at-value : tie.After-value = search in
+    let e1 = at-value .value .ensures .0 in
+    let e2 = at-value2 .value2 .ensures .0 in
+    let e3 = at-value3 .value3 .ensures .0 in
+    let e4 = at-value4 .value4 .ensures .0 in
     rw (e1, e2, e3, e4) at (c .before .before .copy .ensures)
 
 pub put-block-spec : {M : Type 1} → statement M

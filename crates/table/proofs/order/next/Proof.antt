@@ -1,25 +1,31 @@
 -- `table::order::next` meets its contract. The loop's invariant: the first of what is left is the sooner of what has been chosen and the first
 -- of those from `at` on. Assumes nothing.
-use mathlib.Core.Path.{_≡_, refl, sym, _∙_}
+use mathlib.Core.Path.{_≡_, sym, ap, _∙_}
 use Prim.Native.Nat.{_-_}
 use native.Mathlib.Omega.{arith}
 use lib.ListN.{length}
 use borrow.Author.Needs.{needs}
 use Rattle.spec.specs.Table.{inOrder}
 use Rattle.spec.specs.Laws.Selection.{firstOf}
-use Rattle.table.specs.Reading.{ReadingLies, whole, end}
+use Rattle.table.specs.Reading.{ReadingLies, whole, end, firstPlace}
 use Rattle.table.specs.Listed.{listed, Heads, heads}
 use Rattle.table.specs.Order.{definitionsLeft, choosing, choosing-none, choosing-found, choosing-other}
+use Rattle.table.specs.declared.Reading.the-variants.{End}
 use Rattle.table.proofs.Tags.{listed-none}
 use Rattle.table.proofs.order.next.Statement.{statement}
 use Rattle.table.proofs.order.next.Tie as tie
 
 abbrev Inv-loop : tie.InvT-loop
 Inv-loop table cursor best₀ at₀ best at =
-    (firstOf (inOrder (definitionsLeft table cursor (listed table 0))) ≡ choosing table cursor best at) × ReadingLies table best
+    (firstOf (inOrder (definitionsLeft table cursor (listed table (firstPlace table)))) ≡ choosing table cursor best at) × ReadingLies table best
 
 abbrev μ-loop : tie.MeasureT-loop
 μ-loop table cursor best₀ at₀ best at = length table - at
+
+loop-holds : tie.Need-loop-holds Inv-loop μ-loop
+loop-holds c =
+    let at-start : tie.Start Inv-loop μ-loop = search in
+    (ap (choosing (at-start .args .table .now) (at-start .args .cursor) End) (sym (c .first-place .ensures)), end)
 
 returns : tie.Need-returns Inv-loop μ-loop
 returns c =
@@ -86,7 +92,8 @@ next-spec =
     (tie.spec
     Inv-loop
     μ-loop
-    (λ c. (refl, end))
+    (λ c κs. search needs)
+    loop-holds
     (λ c κs. search needs)
     (λ c. search needs)
     returns

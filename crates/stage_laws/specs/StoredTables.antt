@@ -1,0 +1,95 @@
+-- Tables as they were read before there was a wide form: one not begun by 00 gives the same answer and bytes in every call. Assumes nothing.
+--     storedDefinitions      the records of a table as they were read, or none where number 3 refused it
+--     storedConverted        what a call came to
+--     converted-as-stored    a table not begun by 00 gives what it gave
+--     stored-refused         number 3 refused every table begun by 00
+use mathlib.Core.Path.{_≡_, refl, ap, _∙_}
+use mathlib.Core.Bool.{Bool, true, false, cond, or-true}
+use mathlib.Core.List.{List, [], _∷_}
+use mathlib.Core.Option.{Option, none, some, Option·map, Option·getD}
+use Prim.Native.Nat.{ℕ, zero, suc, _+_}
+use lib.Dec.{ltb}
+use lib.ListN.{length, drop}
+use Rattle.spec.specs.Symbols.{foreign, any}
+use Rattle.spec.specs.Result.{Result, passed, refused, _then_}
+use Rattle.spec.specs.Table.{Definition, Form, narrow, formOf, start, narrowLengths, definitionOf, record-before, recordsWith, recordsIn, mostBytes, mostRecords, faulty, whole, definitions}
+use Rattle.spec.specs.Pipeline.{mostFormula, leastWork, typstToLatex, definitionsOr, readable, admitted, fitting, converted}
+
+unfoldable pub storedRecordsWith : ℕ → List ℕ → Option (List Definition)
+storedRecordsWith zero s = some []
+storedRecordsWith (suc k) [] = some []
+storedRecordsWith (suc k) (high ∷ []) = none
+storedRecordsWith (suc k) (high ∷ low ∷ rest) =
+    let l = narrowLengths high low in record-before l rest (storedRecordsWith k (drop (l .name + l .latex) rest))
+
+abbrev pub storedRecords : List ℕ → Option (List Definition)
+storedRecords table = storedRecordsWith (length table) table
+
+abbrev pub storedDefinitions : List ℕ → Option (List Definition)
+storedDefinitions table = elim (ltb mostBytes (length table)) [ true ↦ none | false ↦ whole (storedRecords table) ]
+
+-- numbers 4, 2, 1 as with a table that number 3 can't refuse, then 3
+abbrev pub storedAdmitted : List ℕ → List ℕ → List ℕ → Result (List ℕ)
+storedAdmitted formula table work = admitted formula [] work then (λ s. readable s (storedDefinitions table))
+
+abbrev pub storedConverted : List ℕ → List ℕ → Bool → List ℕ → List ℕ → Result (List ℕ)
+storedConverted formula table display work output =
+    storedAdmitted formula table work then typstToLatex (Option·getD (storedDefinitions table) []) display then fitting output
+
+-- ---- not begun by 00
+narrow-with : (k : ℕ) (s : List ℕ) → recordsWith narrow k s ≡ storedRecordsWith k s
+unfolding recordsWith storedRecordsWith
+narrow-with zero s = refl
+narrow-with (suc k) [] = refl
+narrow-with (suc k) (high ∷ []) = refl
+narrow-with (suc k) (high ∷ low ∷ rest) =
+    let l = narrowLengths high low in ap (record-before l rest) (narrow-with k (drop (l .name + l .latex) rest))
+
+pub definitions-as-stored : (table : List ℕ) → formOf table ≡ narrow → definitions table ≡ storedDefinitions table
+unfolding definitions recordsIn
+definitions-as-stored table e =
+    ap (λ (o : Option (List Definition)). elim (ltb mostBytes (length table)) as (λ _. Option (List Definition)) [ true ↦ none | false ↦ whole o ])
+    (ap (λ (form : Form). recordsIn form (drop (start form) table)) e ∙ narrow-with (length table) table)
+
+admitted-by : (formula table work : List ℕ) → admitted formula table work ≡ (admitted formula [] work then (λ s. readable s (definitions table)))
+unfolding definitions
+admitted-by formula table work = go (ltb (length work) leastWork) (ltb mostFormula (length formula)) (any foreign formula)
+  where
+    first : Bool → Bool → Bool → Result (List ℕ) → Result (List ℕ)
+    first a b c r = elim a [ true ↦ refused 4 | false ↦ elim b [ true ↦ refused 2 | false ↦ elim c [ true ↦ refused 1 | false ↦ r ] ] ]
+
+    go : (a b c : Bool) → first a b c (readable formula (definitions table)) ≡ (first a b c (passed formula) then (λ s. readable s (definitions table)))
+    go true b c = refl
+    go false true c = refl
+    go false false true = refl
+    go false false false = refl
+
+pub converted-as-stored :
+    (formula table : List ℕ) (display : Bool) (work output : List ℕ) → formOf table ≡ narrow
+    → converted formula table display work output ≡ storedConverted formula table display work output
+unfolding converted
+converted-as-stored formula table display work output e =
+    ap (λ r. r then typstToLatex (definitionsOr table) display then fitting output) (admitted-by formula table work)
+    ∙ ap (λ (ds : Option (List Definition)). admitted formula [] work then (λ s. readable s ds) then typstToLatex (Option·getD ds []) display then fitting output) (definitions-as-stored table e)
+
+-- ---- begun by 00: the first name was empty
+nameless : (latex : List ℕ) (o : Option (List Definition)) → whole (Option·map (λ (ds : List Definition). record { name = []; latex = latex } ∷ ds) o) ≡ none
+unfolding faulty
+nameless latex none = refl
+nameless latex (some ds) = ap (λ b. cond b none (some (record { name = []; latex = latex } ∷ ds))) (or-true (ltb mostRecords (suc (length ds))))
+
+pub stored-refused : (s : List ℕ) → storedDefinitions (0 ∷ s) ≡ none
+unfolding storedRecordsWith
+stored-refused s = go (ltb mostBytes (length (0 ∷ s))) s
+  where
+    fits : (past : Bool) (latex : List ℕ) (o : Option (List Definition))
+        → whole (elim past as (λ _. Option (List Definition)) [ true ↦ none | false ↦ Option·map (λ (ds : List Definition). record { name = []; latex = latex } ∷ ds) o ]) ≡ none
+    fits true latex o = refl
+    fits false latex o = nameless latex o
+
+    go : (long : Bool) (s : List ℕ) → _≡_ {A = Option (List Definition)} (elim long [ true ↦ none | false ↦ whole (storedRecordsWith (suc (length s)) (0 ∷ s)) ]) none
+    go true s = refl
+    go false [] = refl
+    go false (low ∷ rest) =
+        let l = narrowLengths 0 low in
+        fits (ltb (length rest) (l .name + l .latex)) (definitionOf l rest .latex) (storedRecordsWith (suc (length rest)) (drop (l .name + l .latex) rest))
