@@ -1,4 +1,4 @@
-/* Converts some correction formulas of a calibration bench, with one definition. Built and run by embed/run-c. */
+/* Converts some correction formulas of a calibration bench, with definitions. Built and run by embed/run-c. */
 #include "jistranu.h"
 
 #include <stdio.h>
@@ -9,11 +9,21 @@ static uint8_t output[JISTRANU_OUTPUT_BYTES];
 static uint8_t table[JISTRANU_TABLE_BYTES];
 static size_t table_len;
 
-/* Appends one record. The lengths are within the limits of jistranu.h, and the table has room. */
+/* Begins the table anew, in the wide form. */
+static void begin_wide(void)
+{
+    table[0] = 0;
+    table_len = 1;
+}
+
+/* Appends one record in the table's form. The lengths are within the limits of jistranu.h, and the table has room. */
 static void define(const char *name, const char *latex)
 {
+    bool wide = table_len > 0 && table[0] == 0;
     size_t name_len = strlen(name), latex_len = strlen(latex);
-    size_t header = name_len << 10 | latex_len;
+    size_t header = name_len << (wide ? 13 : 10) | latex_len;
+    if (wide)
+        table[table_len++] = (uint8_t)(header >> 16);
     table[table_len++] = (uint8_t)(header >> 8);
     table[table_len++] = (uint8_t)header;
     memcpy(table + table_len, name, name_len);
@@ -44,5 +54,9 @@ int main(void)
     convert("f_0 = 1/(2 pi sqrt(L C))");
     convert("op(\"U (peak)\")_1");
     convert("lr(|)");
+    begin_wide();
+    define("gain", "\\mathrm{G}");
+    define("Uref", "U_{\\mathrm{ref}}");
+    convert("Uref/gain");
     return 0;
 }

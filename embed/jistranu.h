@@ -21,13 +21,15 @@ extern "C" {
 #endif
 
 enum {
-    JISTRANU_FORMULA_BYTES = 4096, /* a formula has at most this many bytes */
-    JISTRANU_TABLE_BYTES = 32768,  /* a definition table has at most this many bytes, */
-    JISTRANU_TABLE_RECORDS = 64,   /* and this many definitions */
-    JISTRANU_NAME_BYTES = 63,      /* a defined name has at most this many bytes, */
-    JISTRANU_LATEX_BYTES = 1023,   /* and its LaTeX this many */
-    JISTRANU_WORK_BYTES = 32768,   /* a call is lent at least this many bytes to work in */
-    JISTRANU_OUTPUT_BYTES = 8192,  /* no answer is longer: with this room, number 10 is never met */
+    JISTRANU_FORMULA_BYTES = 4096,    /* a formula has at most this many bytes */
+    JISTRANU_TABLE_BYTES = 32768,     /* a definition table has at most this many bytes, in either form, */
+    JISTRANU_TABLE_RECORDS = 64,      /* and this many definitions */
+    JISTRANU_NAME_BYTES = 63,         /* in the narrow form a defined name has at most this many bytes, */
+    JISTRANU_LATEX_BYTES = 1023,      /* and its LaTeX this many */
+    JISTRANU_WIDE_NAME_BYTES = 127,   /* in the wide form a defined name has at most this many bytes, */
+    JISTRANU_WIDE_LATEX_BYTES = 8191, /* and its LaTeX this many */
+    JISTRANU_WORK_BYTES = 32768,      /* a call is lent at least this many bytes to work in */
+    JISTRANU_OUTPUT_BYTES = 8192,     /* no answer is longer: with this room, number 10 is never met */
 };
 
 /* What a call answers: 0, or why there is no LaTeX. Where several reasons hold, 4 comes first, then 2, 1 and 3, then the
@@ -36,7 +38,7 @@ enum jistranu_answer {
     JISTRANU_DONE = 0,
     JISTRANU_FOREIGN_BYTE = 1,   /* the formula holds something else than ASCII text, tabs and newlines */
     JISTRANU_LONG_FORMULA = 2,   /* the formula has more than 4,096 bytes */
-    JISTRANU_FAULTY_TABLE = 3,   /* the definition table is too long, is cut off, or has a bad or repeated name or bad LaTeX */
+    JISTRANU_FAULTY_TABLE = 3,   /* the table is too long or cut off, or has a bad header, a bad or repeated name or bad LaTeX */
     JISTRANU_NARROW_WORK = 4,    /* the work buffer has less than 32,768 bytes */
     JISTRANU_OVERGROWN = 5,      /* the text grows above 8,192 symbols on its way to LaTeX */
     JISTRANU_LOST_BLOCK = 6,     /* kept, so that the others keep their numbers; no call answers it */
@@ -52,10 +54,15 @@ enum jistranu_answer {
  * enum jistranu_answer, and *count is 0. No other byte of `output` is written. All of `work` is zero afterwards, whatever
  * stood there; after JISTRANU_NARROW_WORK it is untouched.
  *
- * The table is any number of records, one after the other. A record is a header of two bytes, name length times 1,024 plus
- * LaTeX length, most significant byte first; then the name; then the LaTeX. A name is letters and digits and begins with a
- * letter; names of one letter are read and left alone. LaTeX is ASCII text, tabs and newlines, without `$`.
- * Longer names are applied first, names of equal length in the order of their bytes; the order of the records does not matter.
+ * The table has two forms, and its first byte says which. A wide table is a byte 0 and then records; a table that begins with
+ * another byte, or has none, is narrow and is records alone. A record is a header, then the name, then the LaTeX. The header is a
+ * number, most significant byte first: in the narrow form two bytes, name length times 1,024 plus LaTeX length; in the wide form
+ * three bytes, name length times 8,192 plus LaTeX length. The first four bits of these are zero, since a name has at most 127
+ * bytes. The same records give the same answer in both forms, where neither is too long.
+ *
+ * A name is letters and digits and begins with a letter; names of one letter are read and left alone. LaTeX is ASCII text, tabs
+ * and newlines, without `$`. Longer names are applied first, names of equal length in the order of their bytes; the order of the
+ * records does not matter.
  */
 uint64_t jistranu_typst_to_latex(
     const uint8_t *formula, size_t formula_len,
@@ -68,7 +75,7 @@ uint64_t jistranu_typst_to_latex(
 /* Whether a formula is plain: sums, products, fractions and scripts of single letters, Greek names and numbers, in the one
  * spelling that the grammar allows. *atoms is then how many of those it has, one-letter scripts not counted; else 0.
  *
- * Two different plain formulas, converted with display on and no table, never give the same LaTeX.
+ * Two different plain formulas, converted with display on and no definitions, never give the same LaTeX.
  */
 bool jistranu_plain_check(const uint8_t *formula, size_t formula_len, size_t *atoms);
 

@@ -1,9 +1,12 @@
-//! Converts some correction formulas of a calibration bench, with one definition. Built and run by embed/run-rust.
+//! Converts some correction formulas of a calibration bench, with definitions. Built and run by embed/run-rust.
 
 use std::collections::HashMap;
 
 fn main() {
-    let definitions = HashMap::from([("gain".to_string(), "\\mathrm{G}".to_string())]);
+    let definitions = HashMap::from([
+        ("gain".to_string(), "\\mathrm{G}".to_string()),
+        ("Uref".to_string(), "U_{\\mathrm{ref}}".to_string()),
+    ]);
     for formula in [
         "(a + 1)/b",
         "U_1 = U_0 10^(gain/20)",
@@ -11,6 +14,7 @@ fn main() {
         "f_0 = 1/(2 pi sqrt(L C))",
         "op(\"U (peak)\")_1",
         "lr(|)",
+        "Uref/gain",
     ] {
         match jistranu::typst_to_latex(formula, &definitions, true) {
             Ok(latex) => println!("{formula}\n    {latex}"),

@@ -9,6 +9,7 @@ mod refusal;
 pub use refusal::Refusal;
 use std::cell::RefCell;
 use std::collections::HashMap;
+use std::ops::RangeInclusive;
 
 /// A formula has at most this many bytes.
 pub const FORMULA_BYTES: usize = 4_096;
@@ -16,9 +17,21 @@ pub const FORMULA_BYTES: usize = 4_096;
 pub const WORK_BYTES: usize = 32_768;
 /// No answer is longer.
 pub const OUTPUT_BYTES: usize = 8_192;
-/// The header of a record has 6 bits for the length of the name and 10 for that of the LaTeX.
-const NAME_BYTES: usize = 63;
-const LATEX_BYTES: usize = 1_023;
+
+/// How a table holds definitions: what it begins with, the bytes of a record's header, the lengths that a header has room for.
+/// A header is a number, the length of the name times `latex_bytes + 1` plus that of the LaTeX, most significant byte first.
+struct Form {
+    begin: &'static [u8],
+    header_bytes: usize,
+    name_bytes: RangeInclusive<usize>,
+    latex_bytes: usize,
+}
+
+/// An empty name is left to the wide form: with it, a narrow table may begin as a wide one does.
+const NARROW: Form = Form { begin: &[], header_bytes: 2, name_bytes: 1..=63, latex_bytes: 1_023 };
+const WIDE: Form = Form { begin: &[0], header_bytes: 3, name_bytes: 0..=127, latex_bytes: 8_191 };
+/// A wide table that ends within a header.
+const CUT_OFF: [u8; 2] = [0, 0];
 
 /// What a call is lent. One for each thread, so that a call allocates its answer only.
 struct Buffers {
@@ -36,8 +49,8 @@ thread_local! {
 /// The LaTeX of a formula, or why there is none. `display`: whether `a/b` becomes `\frac{a}{b}`.
 ///
 /// Definitions are applied longer names first and, among names of equal length, in the order of their bytes, so equal calls have
-/// equal answers. Definitions that fit no table are [`Refusal::FaultyTable`]; text that is not ASCII is
-/// [`Refusal::ForeignByte`]. `NarrowWork` and `ShortOutput` don't occur.
+/// equal answers. Definitions that fit no table are [`Refusal::FaultyTable`]: a name has at most 127 bytes, its LaTeX at most
+/// 8,191. Text that is not ASCII is [`Refusal::ForeignByte`]. `NarrowWork` and `ShortOutput` don't occur.
 pub fn typst_to_latex(
     typst_math: &str,
     definitions: &HashMap<String, String>,
@@ -50,8 +63,8 @@ pub fn typst_to_latex(
     })
 }
 
-/// The library's own call: a table in its bytes, and lent buffers. The LaTeX is the start of `output`, of which no other
-/// byte is written; all of `work` is zero afterwards, or untouched where it is too narrow.
+/// The library's own call: a table in its bytes, narrow or wide, and lent buffers. The LaTeX is the start of `output`, of which
+/// no other byte is written; all of `work` is zero afterwards, or untouched where it is too narrow.
 pub fn convert<'a>(
     formula: &[u8],
     table: &[u8],
@@ -91,21 +104,25 @@ pub fn plain_check(formula: &[u8]) -> Option<usize> {
     plain.then_some(atoms)
 }
 
-/// The definitions as a table, in the map's order, which does not matter. Where a record can't hold one, the table is cut off
-/// within its header, which is a fault like any other: the library decides which refusal comes first.
+/// The definitions as a table, narrow where that form has room for each and else wide. Where neither has, the table is cut off,
+/// which is a fault like any other: the library decides which refusal comes first.
 fn table(definitions: &HashMap<String, String>) -> Vec<u8> {
-    let mut table = Vec::new();
+    [NARROW, WIDE].iter().find_map(|form| table_in(form, definitions)).unwrap_or_else(|| CUT_OFF.to_vec())
+}
+
+/// The table in one form, in the map's order, which does not matter; None where a header has no room for a definition.
+fn table_in(form: &Form, definitions: &HashMap<String, String>) -> Option<Vec<u8>> {
+    let mut table = form.begin.to_vec();
     for (name, latex) in definitions {
-        if name.len() > NAME_BYTES || latex.len() > LATEX_BYTES {
-            table.push(0);
-            break;
+        if !form.name_bytes.contains(&name.len()) || latex.len() > form.latex_bytes {
+            return None;
         }
-        let header = (name.len() << 10 | latex.len()) as u16;
-        table.extend(header.to_be_bytes());
+        let header = (name.len() * (form.latex_bytes + 1) + latex.len()).to_be_bytes();
+        table.extend(&header[header.len() - form.header_bytes..]);
         table.extend(name.as_bytes());
         table.extend(latex.as_bytes());
     }
-    table
+    Some(table)
 }
 
 #[cfg(test)]

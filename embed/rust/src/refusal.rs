@@ -25,8 +25,8 @@ const ALL: [(Refusal, &str); 10] = [
     (Refusal::LongFormula, "the formula has more than 4,096 bytes"),
     (
         Refusal::FaultyTable,
-        "the definitions are more than 64 or 32,768 bytes, or one of them is faulty: a name is 1 to 63 letters and digits \
-         and begins with a letter, its LaTeX is at most 1,023 bytes of ASCII text without $",
+        "the definitions are more than 64 or 32,768 bytes, or one of them is faulty: a name is 1 to 127 letters and digits \
+         and begins with a letter, its LaTeX is at most 8,191 bytes of ASCII text without $",
     ),
     (Refusal::NarrowWork, "the work buffer has less than 32,768 bytes"),
     (Refusal::Overgrown, "the formula grows above 8,192 symbols on its way to LaTeX"),

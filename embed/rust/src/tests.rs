@@ -6,6 +6,16 @@ fn defined(rows: &[(&str, &str)]) -> HashMap<String, String> {
     rows.iter().map(|(name, latex)| (name.to_string(), latex.to_string())).collect()
 }
 
+fn faulty(rows: &[(&str, &str)]) -> bool {
+    typst_to_latex("a", &defined(rows), true) == Err(Refusal::FaultyTable)
+}
+
+/// The answer with a table in its bytes.
+fn converted(formula: &str, table: &[u8]) -> Result<Vec<u8>, Refusal> {
+    let (mut work, mut output) = ([7; WORK_BYTES], [7; OUTPUT_BYTES]);
+    convert(formula.as_bytes(), table, true, &mut work, &mut output).map(<[u8]>::to_vec)
+}
+
 #[test]
 fn converts() {
     let none = HashMap::new();
@@ -31,8 +41,7 @@ fn the_order_of_the_records_does_not_matter() {
     let records: [&[u8]; 3] = [b"\x08\x02abcd", b"\x08\x01cdx", b"\x0c\x02abcab"];
     for order in [[0, 1, 2], [0, 2, 1], [1, 0, 2], [1, 2, 0], [2, 0, 1], [2, 1, 0]] {
         let table = order.map(|i| records[i]).concat();
-        let (mut work, mut output) = ([7; WORK_BYTES], [7; OUTPUT_BYTES]);
-        assert_eq!(convert(b"abc", &table, true, &mut work, &mut output).map(<[u8]>::to_vec), Ok(b"x".to_vec()));
+        assert_eq!(converted("abc", &table), Ok(b"x".to_vec()));
     }
 }
 
@@ -71,19 +80,80 @@ fn refuses_by_its_number() {
 }
 
 #[test]
+fn a_table_is_narrow_where_that_form_has_room() {
+    assert_eq!(table(&HashMap::new()), b"");
+    for (before_name, name, latex) in [
+        (&b"\x10\x0a"[..], 4, 10),
+        (b"\xff\xff", 63, 1_023),
+        (b"\x04\0", 1, 0),
+        (b"\0\x08\0\0", 64, 0),
+        (b"\0\0\x24\0", 1, 1_024),
+        (b"\0\x0f\xff\xff", 127, 8_191),
+        (b"\0\0\0\x01", 0, 1),
+    ] {
+        let (name, latex) = ("n".repeat(name), "x".repeat(latex));
+        let expected = [before_name, name.as_bytes(), latex.as_bytes()].concat();
+        assert_eq!(table(&defined(&[(&name, &latex)])), expected);
+    }
+    for (name, latex) in [(128, 0), (2_048, 0), (1, 8_192)] {
+        assert_eq!(table(&defined(&[(&"n".repeat(name), &"x".repeat(latex))])), CUT_OFF);
+    }
+}
+
+#[test]
+fn one_long_definition_makes_all_of_them_wide() {
+    let long = "x".repeat(1_024);
+    let rows = defined(&[("gain", "\\mathrm{G}"), ("long", &long)]);
+    assert_eq!(table(&rows).len(), 1 + 3 + 4 + 10 + 3 + 4 + 1_024);
+    assert_eq!(typst_to_latex("gain/long", &rows, true), Ok(format!("\\frac{{\\mathrm{{G}}}}{{{long}}}")));
+}
+
+#[test]
+fn both_forms_of_a_table_give_the_same() {
+    let rows = defined(&[("gain", "\\mathrm{G}"), ("ab", "cd"), ("cd", "gain"), ("n", "x"), ("none", "")]);
+    let narrow = table(&rows);
+    let wide = table_in(&WIDE, &rows).unwrap();
+    assert_eq!(wide.len(), narrow.len() + 1 + rows.len());
+    for formula in ["", "gain/2", "ab + cd", "n none n", "lr(|)", "é"] {
+        assert_eq!(converted(formula, &wide), converted(formula, &narrow));
+    }
+}
+
+#[test]
+fn reads_a_table_that_begins_with_zero_as_wide() {
+    assert_eq!(converted("gain/2", b"\0\0\x80\x0again\\mathrm{G}"), Ok(b"\\frac{\\mathrm{G}}{2}".to_vec()));
+    assert_eq!(converted("gain/2", b"\0"), Ok(b"\\frac{gain}{2}".to_vec()));
+    for table in [&b"\0\0"[..], b"\0\0\0", b"\0\0\0\0", b"\0\0\x80\x0again\\mathrm{G"] {
+        assert_eq!(converted("gain/2", table), Err(Refusal::FaultyTable));
+    }
+    for first_bits in [0x80, 0x40, 0x20, 0x10] {
+        let table = [b"\0", &[first_bits][..], b"\x80\x0again\\mathrm{G}"].concat();
+        assert_eq!(converted("gain/2", &table), Err(Refusal::FaultyTable));
+    }
+}
+
+#[test]
 fn definitions_that_fit_no_table_are_faulty() {
-    let faulty = |rows: &[(&str, &str)]| typst_to_latex("a", &defined(rows), true) == Err(Refusal::FaultyTable);
-    let (name, latex) = ("n".repeat(63), "x".repeat(1_023));
-    assert!(!faulty(&[(&name, &latex)]));
-    assert!(faulty(&[(&(name.clone() + "n"), "x")]));
-    assert!(faulty(&[("n", &(latex.clone() + "x"))]));
-    assert!(faulty(&[("", "x")]));
-    assert!(faulty(&[("a_b", "x")]));
-    assert!(faulty(&[("ab", "$")]));
-    assert!(faulty(&[("ab", "é")]));
+    let (long_name, long_latex): (&str, &str) = (&"n".repeat(128), &"x".repeat(8_192));
+    assert!(!faulty(&[(&long_name[1..], &long_latex[1..])]));
+    for row in [(long_name, "x"), ("n", long_latex), ("", "x"), ("", ""), ("a_b", "x"), ("ab", "$"), ("ab", "é")] {
+        assert!(faulty(&[row]));
+        // Whichever of them the map has first.
+        for _ in 0..20 {
+            assert!(faulty(&[row, ("gain", "x")]));
+            assert!(faulty(&[row, ("gain", &long_latex[1..])]));
+        }
+    }
     // A foreign byte in the formula comes first.
-    let long_name = defined(&[(&(name + "n"), "x")]);
-    assert_eq!(typst_to_latex("é", &long_name, true), Err(Refusal::ForeignByte));
+    assert_eq!(typst_to_latex("é", &defined(&[(long_name, "x")]), true), Err(Refusal::ForeignByte));
+}
+
+#[test]
+fn a_wide_table_has_at_most_32_768_bytes() {
+    let latex = "x".repeat(8_187);
+    let rows = [("ab", latex.as_str()), ("cd", &latex), ("ef", &latex)];
+    assert!(!faulty(&[&rows[..], &[("gh", &latex[1..])]].concat()));
+    assert!(faulty(&[&rows[..], &[("gh", &latex)]].concat()));
 }
 
 #[test]
