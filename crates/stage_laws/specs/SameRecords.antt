@@ -1,7 +1,8 @@
 -- Two tables with the same records, in whatever order, give the same answer and bytes in every call. Assumes nothing.
 --     SameRecords        both are read to the end, and the records of one are those of the other
---     calls-alike        two calls of the entry with the same formula, display and buffers, where number 3's limit of bytes parts the tables by nothing
---     calls-same         so it is where both tables are of one form
+--     CallsAlike         two calls that differ in the table alone answer the same and leave the same bytes
+--     calls-alike        so it is where both tables have more than 32,768 bytes, or neither has
+--     calls-same         so it is where both are of one form
 --     wide-calls-same    so it is where one is narrow and the other wide, if the wide one, which is longer, is not too long
 use mathlib.Core.Path.{_≡_, refl, sym, ap, ap₂, _∙_}
 use mathlib.Core.Bool.{Bool, true, false, _||_}
@@ -29,6 +30,14 @@ pub record SameRecords (table table′ : List ℕ) : Type 0 where
   pub read : records table ≡ some first
   pub read′ : records table′ ≡ some second
   pub rearranged : Rearranged first second
+
+-- any two calls of the entry with these tables, and the same formula, display and buffers, answer the same and leave the same bytes
+abbrev pub CallsAlike : List ℕ → List ℕ → Type 0
+CallsAlike table table′ =
+    (formula work output work′ output′ work″ output″ : List ℕ) (display : Bool) (answer answer′ : Result ℕ)
+    → Call formula table display work output answer work′ output′
+    → Call formula table′ display work output answer′ work″ output″
+    → (answer ≡ answer′) × ((work′ ≡ work″) × (output′ ≡ output″))
 
 -- ---- only the order of the definitions counts
 then-same : {A B : Type 0} (r : Result A) {f g : A → Result B} → ((a : A) → f a ≡ g a) → (r then f) ≡ (r then g)
@@ -106,29 +115,15 @@ module _ {table table′ : List ℕ} (t : SameRecords table table′) where
         ap (λ r. r then typstToLatex (definitionsOr table) display then fitting output) (admitted-same formula table table′ work (d .0))
         ∙ ap (λ r. r then fitting output) (then-same (admitted formula table′ work) (λ s. typst-to-latex-order (definitionsOr table) (definitionsOr table′) display s (d .1)))
 
-    pub calls-alike :
-        {formula work output work′ output′ work″ output″ : List ℕ} {display : Bool} {answer answer′ : Result ℕ}
-        → Call formula table display work output answer work′ output′
-        → Call formula table′ display work output answer′ work″ output″
-        → (answer ≡ answer′) × ((work′ ≡ work″) × (output′ ≡ output″))
-    calls-alike {formula} {work} {output} {display = display} a b =
+    pub calls-alike : CallsAlike table table′
+    calls-alike formula work output work′ output′ work″ output″ display answer answer′ a b =
         let e = converted-same formula display work output in (
           a .answers ∙ ap answerOf e ∙ sym (b .answers),
           (a .clears ∙ ap (λ r. workAfter r work) e ∙ sym (b .clears), a .writes ∙ ap (λ r. outputAfter r output) e ∙ sym (b .writes)),
         )
 
-  pub calls-same :
-      formOf table ≡ formOf table′
-      → {formula work output work′ output′ work″ output″ : List ℕ} {display : Bool} {answer answer′ : Result ℕ}
-      → Call formula table display work output answer work′ output′
-      → Call formula table′ display work output answer′ work″ output″
-      → (answer ≡ answer′) × ((work′ ≡ work″) × (output′ ≡ output″))
+  pub calls-same : formOf table ≡ formOf table′ → CallsAlike table table′
   calls-same e = calls-alike (form-limit e)
 
-  pub wide-calls-same :
-      formOf table ≡ narrow → formOf table′ ≡ wide → length table′ ≤ mostBytes
-      → {formula work output work′ output′ work″ output″ : List ℕ} {display : Bool} {answer answer′ : Result ℕ}
-      → Call formula table display work output answer work′ output′
-      → Call formula table′ display work output answer′ work″ output″
-      → (answer ≡ answer′) × ((work′ ≡ work″) × (output′ ≡ output″))
+  pub wide-calls-same : formOf table ≡ narrow → formOf table′ ≡ wide → length table′ ≤ mostBytes → CallsAlike table table′
   wide-calls-same e f short = calls-alike (wide-limit e f short)

@@ -1,19 +1,21 @@
 -- Tables as they were read before there was a wide form: one not begun by 00 gives the same answer and bytes in every call. Assumes nothing.
 --     storedDefinitions      the records of a table as they were read, or none where number 3 refused it
 --     storedConverted        what a call came to
---     converted-as-stored    a table not begun by 00 gives what it gave
+--     stored-call            a table not begun by 00 gives the answer and bytes that it gave
 --     stored-refused         number 3 refused every table begun by 00
-use mathlib.Core.Path.{_≡_, refl, ap, _∙_}
+--     stored-narrow          so none that was accepted is begun by 00
+use mathlib.Core.Path.{_≡_, refl, sym, ap, _∙_}
 use mathlib.Core.Bool.{Bool, true, false, cond, or-true}
 use mathlib.Core.List.{List, [], _∷_}
-use mathlib.Core.Option.{Option, none, some, Option·map, Option·getD}
+use mathlib.Core.Option.{Option, none, some, Option·map, Option·getD, Option·none-ne-some}
 use Prim.Native.Nat.{ℕ, zero, suc, _+_}
-use lib.Dec.{ltb}
+use lib.Dec.{eqb, ltb}
 use lib.ListN.{length, drop}
+use borrow.Author.Tests.{eqb-true}
 use Rattle.spec.specs.Symbols.{foreign, any}
 use Rattle.spec.specs.Result.{Result, passed, refused, _then_}
-use Rattle.spec.specs.Table.{Definition, Form, narrow, formOf, start, narrowLengths, definitionOf, record-before, recordsWith, recordsIn, mostBytes, mostRecords, faulty, whole, definitions}
-use Rattle.spec.specs.Pipeline.{mostFormula, leastWork, typstToLatex, definitionsOr, readable, admitted, fitting, converted}
+use Rattle.spec.specs.Table.{Definition, Form, narrow, wide, formOf, start, narrowLengths, definitionOf, record-before, recordsWith, recordsIn, mostBytes, mostRecords, faulty, whole, definitions}
+use Rattle.spec.specs.Pipeline.{mostFormula, leastWork, typstToLatex, definitionsOr, readable, admitted, fitting, converted, answerOf, outputAfter, workAfter, Call}
 
 unfoldable pub storedRecordsWith : ℕ → List ℕ → Option (List Definition)
 storedRecordsWith zero s = some []
@@ -72,6 +74,14 @@ converted-as-stored formula table display work output e =
     ap (λ r. r then typstToLatex (definitionsOr table) display then fitting output) (admitted-by formula table work)
     ∙ ap (λ (ds : Option (List Definition)). admitted formula [] work then (λ s. readable s ds) then typstToLatex (Option·getD ds []) display then fitting output) (definitions-as-stored table e)
 
+pub stored-call :
+    {formula table work output work′ output′ : List ℕ} {display : Bool} {answer : Result ℕ} → formOf table ≡ narrow
+    → Call formula table display work output answer work′ output′
+    → (let before = storedConverted formula table display work output in (answer ≡ answerOf before) × ((work′ ≡ workAfter before work) × (output′ ≡ outputAfter before output)))
+stored-call {formula} {table} {work} {output} {display = display} e c =
+    let same = converted-as-stored formula table display work output e in
+    (c .answers ∙ ap answerOf same, (c .clears ∙ ap (λ r. workAfter r work) same, c .writes ∙ ap (λ r. outputAfter r output) same))
+
 -- ---- begun by 00: the first name was empty
 nameless : (latex : List ℕ) (o : Option (List Definition)) → whole (Option·map (λ (ds : List Definition). record { name = []; latex = latex } ∷ ds) o) ≡ none
 unfolding faulty
@@ -93,3 +103,11 @@ stored-refused s = go (ltb mostBytes (length (0 ∷ s))) s
     go false (low ∷ rest) =
         let l = narrowLengths 0 low in
         fits (ltb (length rest) (l .name + l .latex)) (definitionOf l rest .latex) (storedRecordsWith (suc (length rest)) (drop (l .name + l .latex) rest))
+
+pub stored-narrow : (table : List ℕ) {ds : List Definition} → storedDefinitions table ≡ some ds → formOf table ≡ narrow
+stored-narrow [] e = refl
+stored-narrow (x ∷ s) {ds} e = go (eqb x 0) refl
+  where
+    go : (b : Bool) → eqb x 0 ≡ b → elim b as (λ _. Form) [ true ↦ wide | false ↦ narrow ] ≡ narrow
+    go true f = absurd (Option·none-ne-some ds (sym (stored-refused s) ∙ ap (λ y. storedDefinitions (y ∷ s)) (sym (eqb-true x 0 f)) ∙ e))
+    go false f = refl

@@ -1,14 +1,11 @@
 -- Document 02's example, `gain` for `\mathrm{G}`, in both forms: two tables with the same records. Assumes nothing.
-use mathlib.Core.Path.{_≡_, refl}
-use mathlib.Core.Bool.{Bool}
+use mathlib.Core.Path.{refl}
 use mathlib.Core.List.{List, [], _∷_}
 use Prim.Native.Nat.{ℕ}
 use native.Mathlib.Omega.{arith}
 use Rattle.spec.specs.Symbols.{bytes}
-use Rattle.spec.specs.Result.{Result}
 use Rattle.spec.specs.Table.{Definition, recordsIn, nothing, put}
-use Rattle.spec.specs.Pipeline.{Call}
-use Rattle.stage_laws.specs.SameRecords.{SameRecords, wide-calls-same}
+use Rattle.stage_laws.specs.SameRecords.{SameRecords, CallsAlike, wide-calls-same}
 
 abbrev pub narrowGain : List ℕ
 narrowGain = 16 ∷ 10 ∷ bytes "gain\\mathrm{G}"
@@ -23,9 +20,5 @@ pub gain-same : SameRecords narrowGain wideGain
 unfolding recordsIn
 gain-same = record { first = gain ∷ []; second = gain ∷ []; read = refl; read′ = refl; rearranged = put gain [] [] nothing }
 
-pub gain-calls :
-    {formula work output work′ output′ work″ output″ : List ℕ} {display : Bool} {answer answer′ : Result ℕ}
-    → Call formula narrowGain display work output answer work′ output′
-    → Call formula wideGain display work output answer′ work″ output″
-    → (answer ≡ answer′) × ((work′ ≡ work″) × (output′ ≡ output″))
+pub gain-calls : CallsAlike narrowGain wideGain
 gain-calls = wide-calls-same gain-same refl refl (omega arith)
