@@ -3,6 +3,7 @@
 use super::definitions::{one_order, DEFINITIONS_MARK};
 use super::judge::{self, refused_before_stages, typst_to_latex, Case, LostBlock, Stages, Trouble};
 use super::passing;
+use super::table::{self, Form};
 use super::words::WORDS_MARK;
 use std::collections::{BTreeMap, HashMap};
 use std::panic::{catch_unwind, AssertUnwindSafe};
@@ -71,6 +72,7 @@ struct Asked<'a> {
 }
 
 pub fn check(case: &Case, findings: &mut Findings) {
+    both_forms(case, findings);
     let records = match refused_before_stages(case) {
         Ok(records) => records,
         Err(number) => return findings.count(&format!("{number} before the stages")),
@@ -102,7 +104,8 @@ pub fn check(case: &Case, findings: &mut Findings) {
         Ok(latex) => {
             let short = latex.len() > case.output;
             findings.count(if short { "10 after a finished text" } else { "0 accepted" });
-            same_text("accepted", &asked, &latex, findings);
+            let wide = Form::of(&case.table) == Form::Wide;
+            same_text(if wide { "accepted with a wide table" } else { "accepted" }, &asked, &latex, findings);
         }
         Err(other) if other.number == 5 => findings.count("5: above 60,000 symbols, not followed"),
         Err(other) if overgrown => {
@@ -113,6 +116,33 @@ pub fn check(case: &Case, findings: &mut Findings) {
             findings.count(&format!("{} on the way", trouble.number));
             check_trouble(&trouble, &asked, findings);
         }
+    }
+}
+
+/// The two forms of a table (A6): its records written in the other form, where they fit it, are read back and have the same answer.
+/// No table that begins with 00 is a good narrow one.
+fn both_forms(case: &Case, findings: &mut Findings) {
+    let form = Form::of(&case.table);
+    if form == Form::Wide {
+        match table::read_as(Form::Narrow, &case.table) {
+            Some(_) => findings.disagree("two forms: a good narrow table begins with 00", case),
+            None => findings.count("two forms: begins with 00, no good narrow table"),
+        }
+    }
+    let Some(records) = table::read(&case.table) else {
+        return;
+    };
+    let what = if form == Form::Wide { "a wide table" } else { "a narrow table" };
+    let Some(table) = form.other().table_of(&records) else {
+        return findings.count(&format!("two forms: {what} does not fit the other form"));
+    };
+    let other = Case { table, ..case.clone() };
+    if table::read(&other.table).as_ref() != Some(&records) {
+        findings.disagree(&format!("two forms: {what} has other records in the other form"), case);
+    } else if judge::judge(&other) != judge::judge(case) {
+        findings.disagree(&format!("two forms: {what} has another answer in the other form"), case);
+    } else {
+        findings.count(&format!("two forms: {what} has the same answer in the other form"));
     }
 }
 

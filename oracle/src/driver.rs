@@ -11,6 +11,7 @@ mod generate;
 mod grammar;
 mod judge;
 mod lengths;
+mod long_tables;
 mod passing;
 mod pieces;
 mod plain;
@@ -93,10 +94,12 @@ fn run() -> bool {
 }
 
 fn show(formula: &str, definitions: &[&str]) -> bool {
-    let mut table = Vec::new();
+    // The wide form has room for longer ones.
+    let form = table::Form::Wide;
+    let mut table = form.beginning().to_vec();
     for definition in definitions {
         let (name, latex) = definition.split_once('=').unwrap_or((definition, ""));
-        table.extend(table::record_bytes(name.as_bytes(), latex.as_bytes()));
+        table.extend(form.record_bytes(name.as_bytes(), latex.as_bytes()));
     }
     for display in [true, false] {
         let case = Case {

@@ -2,12 +2,12 @@
 
 use super::judge::{judge, Case, FORMULA_BYTES, STAGE_SYMBOLS, WORK_BYTES};
 use super::rng::Rng;
-use super::table::record_bytes;
+use super::table::{record_bytes, Form};
 use super::{lengths, pieces, plain, tables, traps};
 use super::word_tables::{FUNCTION_MAPPINGS, GREEK_LETTERS, OPERATOR_REPLACEMENTS, WORD_MAPPINGS};
 
-/// Number, name, and how often a generated case is of this family (0: written by hand, see traps.txt).
-pub const FAMILIES: [(u8, &str, usize); 29] = [
+/// Number, name, and how often a generated case is of this family (0: written by hand, see traps.txt; of the last one a part is).
+pub const FAMILIES: [(u8, &str, usize); 30] = [
     (0, "document", 0),
     (1, "readings", 0),
     (2, "order", 0),
@@ -37,6 +37,7 @@ pub const FAMILIES: [(u8, &str, usize); 29] = [
     (26, "equal lengths", 600),
     (27, "enclosed", 700),
     (28, "quoted", 700),
+    (29, "wide", 700),
 ];
 
 pub fn family_number(name: &str) -> Option<u8> {
@@ -81,11 +82,12 @@ pub fn of_family(family: u8, rng: &mut Rng, depth: usize) -> Case {
         "equal lengths" => return defined(rng, tables::of_one_length, deep),
         "enclosed" => return enclosed(rng, deep),
         "quoted" => return quoted(rng, deep),
-        "tables" => return with_fault(rng, deep),
+        "tables" => return with_fault(rng, deep, Form::Narrow),
+        "wide" => return wide(rng, deep),
         "long" => return long(rng),
         "growth" => return growth(rng),
         "rounds" => return rounds(rng),
-        "two refusals" => return two_refusals(rng),
+        "two refusals" => return two_refusals(rng, Form::Narrow),
         "buffers" => return buffers(rng, deep),
         _ => unreachable!("written by hand"),
     };
@@ -136,7 +138,8 @@ fn names(rng: &mut Rng) -> String {
 }
 
 fn mutated(rng: &mut Rng, deep: usize) -> String {
-    let hand = traps::lines();
+    // What is said about wide tables is in the tables, not in the formulas.
+    let hand: Vec<_> = traps::lines().into_iter().filter(|line| FAMILIES[usize::from(line.family)].1 != "wide").collect();
     let text = match rng.below(5) {
         0 | 1 => rng.pick(&hand).formula.clone(),
         2 => rng.pick(&hand).formula.clone() + &rng.pick(&hand).formula,
@@ -236,13 +239,26 @@ fn quoted(rng: &mut Rng, deep: usize) -> Case {
     usual(rng, text.into_bytes())
 }
 
-fn with_fault(rng: &mut Rng, deep: usize) -> Case {
-    let mut fault = rng.below(tables::FAULTS);
+/// Wide tables: good ones of every kind written in this form, longer ones, faulty ones, and with other refusals.
+fn wide(rng: &mut Rng, deep: usize) -> Case {
+    let case = match rng.below(16) {
+        0..=2 => return with_fault(rng, deep, Form::Wide),
+        3 => return two_refusals(rng, Form::Wide),
+        4 | 5 => return defined(rng, tables::long, deep),
+        6..=8 => Case { table: tables::of_blocks(rng), ..enclosed(rng, deep) },
+        9 | 10 => defined(rng, tables::of_one_length, deep),
+        _ => defined(rng, tables::good, deep),
+    };
+    Case { table: tables::widened(&case.table), ..case }
+}
+
+fn with_fault(rng: &mut Rng, deep: usize, form: Form) -> Case {
+    let mut fault = rng.below(tables::faults(form));
     // Tables of the greatest size are few.
     if matches!(fault, 10 | 13) && !rng.once_in(10) {
         fault = 7;
     }
-    let table = tables::faulty(rng, fault);
+    let table = tables::faulty(rng, fault, form);
     let formula = pieces::expression(rng, deep).into_bytes();
     Case { table, ..usual(rng, formula) }
 }
@@ -268,27 +284,31 @@ fn rounds(rng: &mut Rng) -> Case {
 }
 
 /// A case that two numbers (or more) refuse; 6 stands for what the base refused.
-fn two_refusals(rng: &mut Rng) -> Case {
+fn two_refusals(rng: &mut Rng, form: Form) -> Case {
     let (first, second) = (rng.between(1, 10), rng.between(1, 10));
-    let mut case = Case { display: true, ..refused_by(rng, first) };
+    let mut case = Case { display: true, ..refused_by(rng, first, form) };
     merge_refusal(rng, &mut case, second);
     case
 }
 
-pub fn refused_by(rng: &mut Rng, number: usize) -> Case {
-    let mut case = Case { formula: b"x".to_vec(), table: Vec::new(), display: true, work: WORK_BYTES, output: STAGE_SYMBOLS };
+pub fn refused_by(rng: &mut Rng, number: usize, form: Form) -> Case {
+    let (formula, table) = (b"x".to_vec(), form.beginning().to_vec());
+    let mut case = Case { formula, table, display: true, work: WORK_BYTES, output: STAGE_SYMBOLS };
     merge_refusal(rng, &mut case, number);
     case
 }
 
-/// Adds a reason for this number to a case, in front or behind. For 6, which refuses nothing any more, what the base refused.
+/// Adds a reason for this number to a case, in front or behind; records have the form that the table has. For 6, which refuses
+/// nothing any more, what the base refused.
 pub fn merge_refusal(rng: &mut Rng, case: &mut Case, number: usize) {
+    let form = Form::of(&case.table);
     let more = match number {
         1 => rng.pick(&["\u{1}", "\u{7f}", "\r", "\u{e9}", "\u{2044}", "\u{fffd}"]).to_string(),
         2 => "+".repeat(FORMULA_BYTES + 1),
         3 => {
             let fault = rng.below(9);
-            case.table.extend(tables::faulty(rng, fault));
+            let table = tables::faulty(rng, fault, form);
+            case.table.extend(&table[form.beginning().len()..]);
             String::new()
         }
         4 => {
@@ -297,7 +317,7 @@ pub fn merge_refusal(rng: &mut Rng, case: &mut Case, number: usize) {
         }
         5 => {
             if !tables::names(&case.table).iter().any(|name| name == "over") {
-                case.table.extend(record_bytes(b"over", &[b'z'; 1_023]));
+                case.table.extend(form.record_bytes(b"over", &[b'z'; 1_023]));
             }
             " over".repeat(9)
         }

@@ -5,11 +5,11 @@ use super::cases::Recorded;
 use super::generate::{self, entry_names, family_number, name_among_neighbours, of_family};
 use super::judge::{judge, Case, STAGE_SYMBOLS, WORK_BYTES};
 use super::rng::Rng;
-use super::table::record_bytes;
-use super::{lengths, tables, traps};
+use super::table::{record_bytes, Form};
+use super::{lengths, long_tables, tables, traps};
 
 /// How many cases of each generated family, and how many bytes their formulas may have.
-const SHARES: [(&str, usize, usize); 16] = [
+const SHARES: [(&str, usize, usize); 17] = [
     ("names", 400, 100),
     ("expressions", 900, 110),
     ("soup", 700, 90),
@@ -26,6 +26,7 @@ const SHARES: [(&str, usize, usize); 16] = [
     ("equal lengths", 300, 110),
     ("enclosed", 400, 110),
     ("quoted", 400, 110),
+    ("wide", 280, 110),
 ];
 
 struct Recorder {
@@ -106,15 +107,25 @@ fn shares(recorder: &mut Recorder) {
     }
 }
 
-/// Every fault of number 3 three times; the widest tables once.
+/// Every fault of number 3 three times; the greatest tables once, those of the wide form with the other long tables.
 fn faults(recorder: &mut Recorder) {
-    for fault in 0..tables::FAULTS {
+    for fault in 0..tables::faults(Form::Narrow) {
         let times = if matches!(fault, 10 | 13) { 1 } else { 3 };
         for time in 0..times {
             let mut rng = recorder.rng(100 * fault + time);
-            let table = tables::faulty(&mut rng, fault);
+            let table = tables::faulty(&mut rng, fault, Form::Narrow);
             recorder.add("tables", roomy("ab + mab/zz q1", &table, true));
         }
+    }
+    for fault in (0..tables::faults(Form::Wide)).filter(|fault| !matches!(fault, 10 | 13)) {
+        for time in 0..3 {
+            let mut rng = recorder.rng(10_000 + 100 * fault + time);
+            let table = tables::faulty(&mut rng, fault, Form::Wide);
+            recorder.add("wide", roomy("ab + mab/zz q1", &table, true));
+        }
+    }
+    for case in long_tables::cases() {
+        recorder.add("wide", case);
     }
     // The longest name with the longest LaTeX and with none, and the same name one byte too long to match.
     let name = "n".repeat(63);
@@ -199,7 +210,7 @@ fn refusals(recorder: &mut Recorder) {
     for first in 1..=10 {
         for second in 1..=10 {
             let mut rng = recorder.rng(1_000 + 10 * first + second);
-            let mut case = generate::refused_by(&mut rng, first);
+            let mut case = generate::refused_by(&mut rng, first, Form::Narrow);
             if second != first {
                 generate::merge_refusal(&mut rng, &mut case, second);
             }
@@ -208,6 +219,18 @@ fn refusals(recorder: &mut Recorder) {
                 recorder.add("two refusals", case);
             }
         }
+    }
+    // Each with a faulty table of the wide form, and 5 by a wide table alone.
+    for number in 1..=10 {
+        let mut rng = recorder.rng(2_000 + number);
+        let mut case = generate::refused_by(&mut rng, number, Form::Wide);
+        if number == 5 {
+            recorder.add("wide", case.clone());
+        }
+        if number != 3 {
+            generate::merge_refusal(&mut rng, &mut case, 3);
+        }
+        recorder.add("wide", case);
     }
     for work in [0, 1, 32_767, 32_768, 32_769, 40_000] {
         for output in [0, 10, 11, 12] {
