@@ -103,7 +103,7 @@ module _ {table table′ : List ℕ} (t : SameRecords table table′) where
   wide-limit : formOf table ≡ narrow → formOf table′ ≡ wide → length table′ ≤ mostBytes → SameLimit table table′
   wide-limit e f short =
       let longer = wide-longer e f in
-      le-ltb mostBytes (length table) (omega arith) ∙ sym (le-ltb mostBytes (length table′) short)
+      le-ltb mostBytes (length table) (omega arith) ∙ sym (le-ltb mostBytes (length table′) (omega arith))
 
   -- ---- calls
   module _ (limit : SameLimit table table′) where
