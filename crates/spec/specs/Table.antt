@@ -23,7 +23,7 @@ mostBytes = 32768
 abbrev pub mostRecords : ℕ
 mostRecords = 64
 
--- ---- the two forms
+-- ---- the two forms: `wide` is document 02's word (A6)
 pub data Form : Type 0 where
   narrow : Form
   wide : Form

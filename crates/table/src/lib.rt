@@ -63,7 +63,7 @@ pub fn record_at(table: &[u8], at: usize) -> Reading
     narrow_record_at(table, at)
 }
 
-// Its header is 16 bits, most significant first: 6 of the name's length, 10 of the LaTeX's.
+// The same in the narrow form: a header is 16 bits, most significant first, 6 of the name's length and 10 of the LaTeX's.
 fn narrow_record_at(table: &[u8], at: usize) -> Reading
     requires { ⌜ at < length (now table) ⌝ }
     ensures { λ r. ⌜ ReadsIn narrow (now (table .entry)) at r ⌝ }
@@ -80,7 +80,7 @@ fn narrow_record_at(table: &[u8], at: usize) -> Reading
     record_behind(table, at + 2, lengths)
 }
 
-// Its header is 24 bits, most significant first: 4 that are zero, 7 of the name's length, 13 of the LaTeX's.
+// The same in the wide form: a header is 24 bits, most significant first, 4 that are zero, 7 of the name's length and 13 of the LaTeX's.
 fn wide_record_at(table: &[u8], at: usize) -> Reading
     requires { ⌜ at < length (now table) ⌝ }
     ensures { λ r. ⌜ ReadsIn wide (now (table .entry)) at r ⌝ }
