@@ -17,7 +17,7 @@ use lib.Seq.{take-append-seam}
 use borrow.Author.Tests.{eqb-true, le-ltb}
 use Rattle.spec.specs.Symbols.{foreign, all, any}
 use Rattle.spec.specs.Result.{Result, passed, refused, mostSymbols}
-use Rattle.spec.specs.Table.{Definition, Form, narrow, wide, formOf, start, definitions}
+use Rattle.spec.specs.Table.{Definition, narrow, wide, formOf, start, definitions}
 use Rattle.spec.specs.Fractions.{mostRounds}
 use Rattle.spec.specs.Pipeline.{typstToLatex, mostFormula, leastWork, definitionsOr, readable, admitted, fitting, converted, answerOf, outputAfter, workAfter, Call}
 use Rattle.spec.specs.Grammar
@@ -50,7 +50,7 @@ no-records table h = go table (records-long table [] (definitions-some table [] 
     go [] e = inl refl
     go (x ∷ s) e = by-form (eqb x 0) refl s e
       where
-        by-form : (b : Bool) → eqb x 0 ≡ b → (s : List ℕ) → suc (length s) ≡ start (elim b as (λ _. Form) [ true ↦ wide | false ↦ narrow ]) + 0
+        by-form : (b : Bool) → eqb x 0 ≡ b → (s : List ℕ) → suc (length s) ≡ start (cond b wide narrow) + 0
             → (x ∷ s ≡ []) ⊎ (x ∷ s ≡ 0 ∷ [])
         by-form true f [] e = inr (ap (λ y. y ∷ []) (eqb-true x 0 f))
         by-form true f (y ∷ s) e = absurd (omega arith)

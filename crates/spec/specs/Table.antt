@@ -30,7 +30,7 @@ pub data Form : Type 0 where
 
 abbrev pub formOf : List ℕ → Form
 formOf [] = narrow
-formOf (x ∷ table) = elim (eqb x 0) [ true ↦ wide | false ↦ narrow ]
+formOf (x ∷ table) = cond (eqb x 0) wide narrow
 
 -- where the first record begins: behind the byte of the wide form
 abbrev pub start : Form → ℕ

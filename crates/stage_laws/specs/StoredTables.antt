@@ -108,6 +108,6 @@ pub stored-narrow : (table : List ℕ) {ds : List Definition} → storedDefiniti
 stored-narrow [] e = refl
 stored-narrow (x ∷ s) {ds} e = go (eqb x 0) refl
   where
-    go : (b : Bool) → eqb x 0 ≡ b → elim b as (λ _. Form) [ true ↦ wide | false ↦ narrow ] ≡ narrow
+    go : (b : Bool) → eqb x 0 ≡ b → cond b wide narrow ≡ narrow
     go true f = absurd (Option·none-ne-some ds (sym (stored-refused s) ∙ ap (λ y. storedDefinitions (y ∷ s)) (sym (eqb-true x 0 f)) ∙ e))
     go false f = refl

@@ -15,7 +15,7 @@ use lib.ListN.{length, getD, drop, length-drop, drop-of-length-le}
 use lib.Seq.{drop-drop}
 use borrow.Author.Tests.{leb-true, leb-false, ltb-false, le-leb, lt-leb, lt-ltb, le-ltb}
 use Rattle.spec.specs.Laws.Symbols.{drop-step}
-use Rattle.spec.specs.Laws.Table.{width-some, lengths-long}
+use Rattle.spec.specs.Laws.Table.{width-some, lengths-cut, lengths-long}
 use Rattle.spec.specs.Table.{
   Definition,
   Form,
@@ -34,7 +34,6 @@ use Rattle.spec.specs.Table.{
   recordsIn,
 }
 use Rattle.text_symbols.specs.Parts.{part, length-part}
-use Rattle.table.specs.Forms.{lengths-cut}
 use Rattle.table.specs.Records.{records-none, records-some}
 use Rattle.table.specs.declared.Record.{Record}
 use Rattle.table.specs.declared.Reading.{Reading}

@@ -12,6 +12,7 @@ use mathlib.Core.Bool.{Bool, true, false, cond, _||_, or-true, true≢false}
 use mathlib.Core.List.{List, [], _∷_, _++_}
 use mathlib.Core.Option.{Option, none, some, Option·map, Option·none-ne-some, Option·some-injective}
 use Prim.Native.Nat.{ℕ, zero, suc, _+_, _≤_, _<_}
+use native.Mathlib.Decide.{decLt}
 use native.Mathlib.Omega.{arith}
 use lib.Dec.{eqb, ltb}
 use lib.ListN.{length, drop, length-take, length-drop}
@@ -76,25 +77,32 @@ pub length-same : {ds es : List Definition} → Rearranged ds es → length ds �
 length-same nothing = refl
 length-same (put d es fs r) = ap suc (length-same r) ∙ sym (length-put d es fs)
 
--- a header that is read is whole
+-- a header that is cut off is not read, and so one that is read is whole
+pub lengths-cut : (form : Form) (s : List ℕ) → length s < width form → lengthsOf form s ≡ none
+lengths-cut narrow [] h = refl
+lengths-cut narrow (x ∷ []) h = refl
+lengths-cut narrow (x ∷ y ∷ s) h = absurd (omega arith)
+lengths-cut wide [] h = refl
+lengths-cut wide (x ∷ []) h = refl
+lengths-cut wide (x ∷ y ∷ []) h = refl
+lengths-cut wide (x ∷ y ∷ z ∷ s) h = absurd (omega arith)
+
 pub lengths-long : (form : Form) (s : List ℕ) {l : Lengths} → lengthsOf form s ≡ some l → width form ≤ length s
-lengths-long narrow [] {l} e = absurd (Option·none-ne-some l e)
-lengths-long narrow (x ∷ []) {l} e = absurd (Option·none-ne-some l e)
-lengths-long narrow (x ∷ y ∷ s) e = omega arith
-lengths-long wide [] {l} e = absurd (Option·none-ne-some l e)
-lengths-long wide (x ∷ []) {l} e = absurd (Option·none-ne-some l e)
-lengths-long wide (x ∷ y ∷ []) {l} e = absurd (Option·none-ne-some l e)
-lengths-long wide (x ∷ y ∷ z ∷ s) e = omega arith
+lengths-long form s {l} e = go (decLt (length s) (width form))
+  where
+    go : Dec (length s < width form) → width form ≤ length s
+    go (yes h) = absurd (Option·none-ne-some l (sym (lengths-cut form s h) ∙ e))
+    go (no h) = omega arith
 
 pub width-some : (form : Form) → 0 < width form
 width-some narrow = omega arith
 width-some wide = omega arith
 
-pub start-within : (table : List ℕ) → start (formOf table) ≤ length table
+start-within : (table : List ℕ) → start (formOf table) ≤ length table
 start-within [] = omega arith
 start-within (x ∷ table) = go (eqb x 0)
   where
-    go : (b : Bool) → start (elim b as (λ _. Form) [ true ↦ wide | false ↦ narrow ]) ≤ suc (length table)
+    go : (b : Bool) → start (cond b wide narrow) ≤ suc (length table)
     go true = omega arith
     go false = omega arith
 
