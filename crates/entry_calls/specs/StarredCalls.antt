@@ -12,7 +12,7 @@ use borrow.Author.Tests.{le-ltb}
 use Rattle.spec.specs.Symbols.{foreign, any}
 use Rattle.spec.specs.Result.{passed, _then_}
 use Rattle.spec.specs.Rows.{Row}
-use Rattle.spec.specs.Pipeline.{mostFormula, leastWork, definitionsOr, admitted, typstToLatex, fitting, converted, answerOf, outputAfter, workAfter, Call}
+use Rattle.spec.specs.Pipeline.{mostFormula, leastWork, definitionsOr, checked, admitted, typstToLatex, fitting, converted, answerOf, outputAfter, workAfter, Call}
 use Rattle.spec.specs.Starred.{starred, starred-hold}
 use Rattle.plain_printing.specs.Calls.{NoRecords, none-or}
 use Rattle.entry_ends.specs.Answer.{meaning}
@@ -32,7 +32,7 @@ means-done (Refused why) e = cc
 module _ (formula latex : List ℕ) (short : ltb mostFormula (length formula) ≡ false) (native : any foreign formula ≡ false)
     (converts : typstToLatex [] true formula ≡ passed latex) (table : List ℕ) (empty : NoRecords table) (work output : List ℕ) (wide : leastWork ≤ length work) (room : length latex ≤ length output) where
   admits : admitted formula table work ≡ passed formula
-  admits = rw (le-ltb (length work) leastWork wide, admitted, short, native, empty)
+  admits = rw (le-ltb (length work) leastWork wide, admitted, short, checked, native, empty)
 
   fits : fitting output latex ≡ passed latex
   fits = rw (le-ltb (length output) (length latex) room)

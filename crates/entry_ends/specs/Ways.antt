@@ -1,20 +1,23 @@
 -- Each way through the two ends of the entry, by what their functions ensure. Assumes nothing.
---     admits-long, .. -text    each way through the admission
+--     checks-long, ..          each way through the checks
+--     admits-refused, -text    each way through the admission
 --     puts-refused, ..         each way through the last step
 use mathlib.Core.Path.{_≡_, refl, sym, ap, _∙_}
-use mathlib.Core.Bool.{true, false, false≢true, true≢false}
+use mathlib.Core.Bool.{Bool, true, false, false≢true, true≢false}
 use mathlib.Core.Logic.{inl}
 use mathlib.Core.List.{List, _++_}
 use mathlib.Core.Option.{Option, none, some}
 use Prim.Native.Nat.{ℕ, _≤_, _<_}
+use native.Mathlib.Decide.{decLt}
 use native.Mathlib.Omega.{arith}
+use lib.Dec.{ltb}
 use lib.ListN.{length, drop, length-append, length-drop}
 use lib.Seq.{take-append-seam}
 use borrow.Author.Tests.{lt-ltb, le-ltb}
 use Rattle.spec.specs.Symbols.{foreign, any}
-use Rattle.spec.specs.Result.{passed, refused, _then_}
+use Rattle.spec.specs.Result.{Result, passed, refused, _then_}
 use Rattle.spec.specs.Table.{Definition, definitions}
-use Rattle.spec.specs.Pipeline.{mostFormula, leastWork, readable, admitted, fitting, answerOf, outputAfter}
+use Rattle.spec.specs.Pipeline.{mostFormula, leastWork, readable, checked, admitted, fitting, answerOf, outputAfter}
 use Rattle.text_symbols.specs.Parts.{part, length-part}
 use Rattle.text.specs.Stage.{shown, Ready, placed-fits}
 use Rattle.text.specs.declared.Progress.{Progress}
@@ -23,55 +26,73 @@ use Rattle.text.specs.declared.Refusal.{Refusal}
 use Rattle.text.specs.declared.Refusal.the-variants.{ForeignByte, LongFormula, FaultyTable, ShortOutput}
 use Rattle.table.specs.Sound.{refused as isRefused}
 use Rattle.entry_ends.specs.declared.Answer.the-variants.{Done, Refused as RefusedBy}
-use Rattle.entry_ends.specs.Answer.{Admits, PutOut}
+use Rattle.entry_ends.specs.declared.admission.Verdict.the-variants.{Passed, Refused as Failed}
+use Rattle.entry_ends.specs.Answer.{Checks, Admits, PutOut}
 
--- ---- admission
-refused-ready : {w : List ℕ} {k : Refusal} → leastWork ≤ length w → Ready w (Refused k)
-refused-ready wide = record { long = wide; placed = tt }
+-- ---- the checks
+module _ {formula table : List ℕ} where
+  pub checks-long : mostFormula < length formula → Checks formula table (Failed LongFormula)
+  checks-long h = record { answers = sym (rw (lt-ltb mostFormula (length formula) h, checked)) }
 
-readable-shown : (formula table w : List ℕ) → leastWork ≤ length w → length formula ≤ mostFormula → any foreign formula ≡ false
-    → readable formula (definitions table) ≡ admitted formula table w
-readable-shown formula table w wide short f =
-    sym (rw (le-ltb (length w) leastWork wide, admitted, le-ltb mostFormula (length formula) short, f))
+  pub checks-short : Checks formula table Passed → length formula ≤ mostFormula
+  checks-short c = go (decLt mostFormula (length formula))
+    where
+      go : Dec (mostFormula < length formula) → length formula ≤ mostFormula
+      go (yes h) =
+          let both : passed formula ≡ refused 2 = c .answers ∙ sym (checks-long h .answers) in
+          let z : _≡_ {A = ℕ} 0 1 = cc in
+          absurd (omega arith)
+      go (no h) = omega arith
 
-module _ {formula table w : List ℕ} (wide : leastWork ≤ length w) where
-  pub admits-long : mostFormula < length formula → Admits formula table w w (Refused LongFormula)
-  admits-long h =
-      record {
-        shows = sym (rw (le-ltb (length w) leastWork wide, admitted, lt-ltb mostFormula (length formula) h));
-        ready = refused-ready wide;
-        long = refl;
-      }
+  pub checks-sound : Checks formula table Passed → isRefused (definitions table) ≡ false
+  checks-sound c = go (ltb mostFormula (length formula)) (any foreign formula) (definitions table) (c .answers)
+    where
+      go : (a b : Bool) (o : Option (List Definition))
+          → passed formula ≡ elim a as (λ _. Result (List ℕ)) [ true ↦ refused 2 | false ↦ elim b as (λ _. Result (List ℕ)) [ true ↦ refused 1 | false ↦ readable formula o ] ]
+          → isRefused o ≡ false
+      go true b o e = let z : _≡_ {A = ℕ} 0 1 = cc in absurd (omega arith)
+      go false true o e = let z : _≡_ {A = ℕ} 0 1 = cc in absurd (omega arith)
+      go false false none e = let z : _≡_ {A = ℕ} 0 1 = cc in absurd (omega arith)
+      go false false (some ds) e = refl
 
   module _ (short : length formula ≤ mostFormula) where
-    pub admits-foreign : any foreign formula ≡ true → Admits formula table w w (Refused ForeignByte)
-    admits-foreign f =
-        record {
-          shows = sym (rw (le-ltb (length w) leastWork wide, admitted, le-ltb mostFormula (length formula) short, f));
-          ready = refused-ready wide;
-          long = refl;
-        }
+    pub checks-foreign : any foreign formula ≡ true → Checks formula table (Failed ForeignByte)
+    checks-foreign f = record { answers = sym (rw (le-ltb mostFormula (length formula) short, checked, f)) }
 
-    pub admits-faulty : any foreign formula ≡ false → isRefused (definitions table) ≡ true → Admits formula table w w (Refused FaultyTable)
-    admits-faulty f r = record { shows = go (definitions table) r ∙ readable-shown formula table w wide short f; ready = refused-ready wide; long = refl }
-      where
-        go : (o : Option (List Definition)) → isRefused o ≡ true → refused 3 ≡ readable formula o
-        go none e = refl
-        go (some ds) e = absurd (false≢true e)
+    module _ (f : any foreign formula ≡ false) where
+      pub checks-faulty : isRefused (definitions table) ≡ true → Checks formula table (Failed FaultyTable)
+      checks-faulty r = record { answers = sym (rw (le-ltb mostFormula (length formula) short, checked, f) (go (definitions table) r)) }
+        where
+          go : (o : Option (List Definition)) → isRefused o ≡ true → readable formula o ≡ refused 3
+          go none e = refl
+          go (some ds) e = absurd (false≢true e)
 
-    pub admits-text : any foreign formula ≡ false → isRefused (definitions table) ≡ false → {w′ : List ℕ} → w′ ≡ formula ++ drop (length formula) w
-        → Admits formula table w w′ (Text 0 (length formula))
-    admits-text f r {w′} e =
-        let same : length w′ ≡ length w = rw e (simp (length-append, length-drop) (omega arith)) in
-        record {
-          shows = ap passed (ap (λ (l : List ℕ). part 0 (length formula) l) e ∙ take-append-seam formula (drop (length formula) w)) ∙ go (definitions table) r ∙ readable-shown formula table w wide short f;
-          ready = record { long = omega arith; placed = (inl refl, omega arith) };
-          long = same;
-        }
-      where
-        go : (o : Option (List Definition)) → isRefused o ≡ false → passed formula ≡ readable formula o
-        go none e = absurd (true≢false e)
-        go (some ds) e = refl
+      pub checks-passed : isRefused (definitions table) ≡ false → Checks formula table Passed
+      checks-passed r = record { answers = sym (rw (le-ltb mostFormula (length formula) short, checked, f) (go (definitions table) r)) }
+        where
+          go : (o : Option (List Definition)) → isRefused o ≡ false → readable formula o ≡ passed formula
+          go none e = absurd (true≢false e)
+          go (some ds) e = refl
+
+-- ---- admission
+checked-admitted : (formula table w : List ℕ) → leastWork ≤ length w → checked formula table ≡ admitted formula table w
+checked-admitted formula table w wide = sym (rw (le-ltb (length w) leastWork wide, admitted))
+
+module _ {formula table w : List ℕ} (wide : leastWork ≤ length w) where
+  pub admits-refused : {why : Refusal} → Checks formula table (Failed why) → Admits formula table w w (Refused why)
+  admits-refused c = record { shows = c .answers ∙ checked-admitted formula table w wide; ready = record { long = wide; placed = tt }; long = refl }
+
+  pub admits-text : Checks formula table Passed → {w′ : List ℕ} → w′ ≡ formula ++ drop (length formula) w → Admits formula table w w′ (Text 0 (length formula))
+  admits-text c {w′} e =
+      let short = checks-short c in
+      let same : length w′ ≡ length w = rw e (simp (length-append, length-drop) (omega arith)) in
+      record {
+        shows = ap passed (ap (λ (l : List ℕ). part 0 (length formula) l) e ∙ take-append-seam formula (drop (length formula) w))
+            ∙ c .answers
+            ∙ checked-admitted formula table w wide;
+        ready = record { long = omega arith; placed = (inl refl, omega arith) };
+        long = same;
+      }
 
 -- ---- the last step
 pub puts-refused : {w output : List ℕ} {p : Progress} {k : Refusal} → p ≡ Refused k → PutOut w p (RefusedBy k) output output

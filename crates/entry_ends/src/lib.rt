@@ -2,7 +2,9 @@
 mod admission;
 mod output;
 
+pub use admission::Verdict;
 pub use admission::admit;
+pub use admission::check;
 pub use output::put_out;
 use text::Refusal;
 

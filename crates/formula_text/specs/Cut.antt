@@ -15,7 +15,7 @@ use Rattle.spec.specs.Result.{Result, refused, _then_}
 use Rattle.spec.specs.Table.{Definition, definitions, mostBytes}
 use Rattle.spec.specs.Program.{firstLine, formulaOf}
 use Rattle.spec.specs.Laws.Table.{admitted-same}
-use Rattle.spec.specs.Pipeline.{mostFormula, leastWork, readable, admitted, typstToLatex, fitting, converted}
+use Rattle.spec.specs.Pipeline.{mostFormula, leastWork, readable, checked, admitted, typstToLatex, fitting, converted}
 
 -- one byte more than a formula, an input (a first line, then the formula) and a table may have
 abbrev pub pastFormula : ℕ
@@ -67,7 +67,7 @@ long-refused formula table work h = go (ltb (length work) leastWork) refl
   where
     go : (b : Bool) → ltb (length work) leastWork ≡ b → admitted formula table work ≡ cond b (refused 4) (refused 2)
     go true e = rw (e, admitted)
-    go false e = rw (e, admitted, lt-ltb mostFormula (length formula) h)
+    go false e = rw (e, admitted, lt-ltb mostFormula (length formula) h, checked)
 
 admitted-cut : {formula front : List ℕ} (table read work : List ℕ) → Cut mostFormula formula front → definitions read ≡ definitions table → admitted front read work ≡ admitted formula table work
 admitted-cut {formula} table read work (whole e) d = ap (λ (s : List ℕ). admitted s read work) e ∙ admitted-same formula read table work (ap (readable formula) d)

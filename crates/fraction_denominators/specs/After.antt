@@ -25,7 +25,7 @@ unfolding find
 any-found k [] = refl
 any-found k (x ∷ s) = go (eqb x k) (any-found k s)
   where
-    go : (b : Bool) → any (λ x. eqb x k) s ≡ isSome (find (k ∷ []) s) → b || any (λ x. eqb x k) s ≡ isSome (elim b [ true ↦ some (x ∷ s) | false ↦ find (k ∷ []) s ])
+    go : (b : Bool) → any (λ x. eqb x k) s ≡ isSome (find (k ∷ []) s) → b || any (λ x. eqb x k) s ≡ isSome {A = List ℕ} (elim b [ true ↦ some (x ∷ s) | false ↦ find (k ∷ []) s ])
     go true h = refl
     go false h = h
 

@@ -19,7 +19,7 @@ use Rattle.spec.specs.Symbols.{foreign, all, any}
 use Rattle.spec.specs.Result.{Result, passed, refused, mostSymbols}
 use Rattle.spec.specs.Table.{Definition, narrow, wide, formOf, start, definitions}
 use Rattle.spec.specs.Fractions.{mostRounds}
-use Rattle.spec.specs.Pipeline.{typstToLatex, mostFormula, leastWork, definitionsOr, readable, admitted, fitting, converted, answerOf, outputAfter, workAfter, Call}
+use Rattle.spec.specs.Pipeline.{typstToLatex, mostFormula, leastWork, definitionsOr, readable, checked, admitted, fitting, converted, answerOf, outputAfter, workAfter, Call}
 use Rattle.spec.specs.Grammar
 use Rattle.spec.specs.Grammar.{Plain}
 use Rattle.spec.specs.Laws.Table.{records-long, definitions-some}
@@ -102,6 +102,7 @@ module _ {formula : List ℕ} (p : Plain formula) (table : List ℕ) (empty : No
           le-ltb (length work) leastWork (w .work-wide),
           admitted,
           le-ltb mostFormula (length formula) (p .short),
+          checked,
           not-foreign formula symbols-plain,
           empty,
         );

@@ -12,3 +12,4 @@ pub mod Attach
 pub mod Order
 pub mod Selection
 pub mod Table
+pub mod WordAt

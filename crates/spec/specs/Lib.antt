@@ -15,6 +15,7 @@ pub mod Scripts
 pub mod Fractions
 pub mod Finish
 pub mod Pipeline
+pub mod WordAt
 pub mod Program
 pub mod Grammar
 pub mod GrammarExamples

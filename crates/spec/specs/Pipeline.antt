@@ -85,16 +85,17 @@ abbrev pub readable : List ℕ → Option (List Definition) → Result (List ℕ
 readable formula none = refused 3
 readable formula (some ds) = passed formula
 
--- numbers 4, 2, 1, 3, in this order
-abbrev pub admitted : List ℕ → List ℕ → List ℕ → Result (List ℕ)
-admitted formula table work =
-    elim (ltb (length work) leastWork) [
-      | true ↦ refused 4
-      | false ↦ elim (ltb mostFormula (length formula)) [
-        | true ↦ refused 2
-        | false ↦ elim (any foreign formula) [ true ↦ refused 1 | false ↦ readable formula (definitions table) ]
-      ]
+-- numbers 2, 1, 3, in this order
+abbrev pub checked : List ℕ → List ℕ → Result (List ℕ)
+checked formula table =
+    elim (ltb mostFormula (length formula)) [
+      | true ↦ refused 2
+      | false ↦ elim (any foreign formula) [ true ↦ refused 1 | false ↦ readable formula (definitions table) ]
     ]
+
+-- number 4 before them
+abbrev pub admitted : List ℕ → List ℕ → List ℕ → Result (List ℕ)
+admitted formula table work = elim (ltb (length work) leastWork) [ true ↦ refused 4 | false ↦ checked formula table ]
 
 -- number 10
 abbrev pub fitting : List ℕ → List ℕ → Result (List ℕ)

@@ -69,9 +69,9 @@ abbrev pub _andThen_ : {A B : Type 0} → Option A → (A → Option B) → Opti
 none andThen f = none
 some a andThen f = f a
 
-abbrev pub isSome : Option (List ℕ) → Bool
+abbrev pub isSome : {A : Type 0} → Option A → Bool
 isSome none = false
-isSome (some s) = true
+isSome (some a) = true
 
 -- ---- lists
 -- 0 stands for no symbol: at the start of a text, and behind its end

@@ -3,6 +3,7 @@ pub mod Forms
 pub mod Records
 pub mod Reading
 pub mod Listed
+pub mod Named
 pub mod Sound
 pub mod Names
 pub mod Order

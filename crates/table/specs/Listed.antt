@@ -9,8 +9,9 @@ use mathlib.Core.Option.{Option, none, some, Option·map, Option·none-ne-some}
 use Prim.Native.Nat.{ℕ, zero, suc, _+_, _-_, _≤_, _<_}
 use native.Mathlib.Omega.{arith}
 use lib.ListN.{length, drop}
-use Rattle.spec.specs.Table.{Definition, formOf, recordsIn, records}
-use Rattle.table.specs.Reading.{Lies, Short, Reads, stands-short, readAt, firstPlace, read-end, recordsBy, records-at, read-places, definitionAt}
+use Rattle.spec.specs.Table.{Definition, formOf, width, recordsIn, records}
+use Rattle.spec.specs.Laws.Table.{width-some}
+use Rattle.table.specs.Reading.{Lies, Reads, readAt, firstPlace, read-end, recordsBy, records-at, read-places, definitionAt}
 use Rattle.table.specs.declared.Record.{Record}
 use Rattle.table.specs.declared.Reading.{Reading}
 use Rattle.table.specs.declared.Reading.the-variants.{Whole, End, Unreadable}
@@ -35,9 +36,9 @@ listedBy s r = listing s (listed s) r
 
 -- the record r at a place, and those behind it
 pub record Heads (s : List ℕ) (at : ℕ) (r : Record) : Type 0 where
+  pub headed : r .name ≡ at + width (formOf s)
   pub behind : at < r .name
   pub lies : Lies s r
-  pub short : Short r
   pub first : listed s at ≡ definitionAt s r ∷ listed s (r .next)
 
 module _ (s : List ℕ) where
@@ -51,7 +52,7 @@ module _ (s : List ℕ) where
     where
       go : (r : Reading) → readAt s at ≡ r → ((next : ℕ) → length s - next ≤ k → length s - next ≤ m → listedWith k s next ≡ listedWith m s next)
           → listing s (λ next. listedWith k s next) r ≡ listing s (λ next. listedWith m s next) r
-      go (Whole r) e later = let p = read-places (formOf s) s at e in ap (λ ds. definitionAt s r ∷ ds) (later (r .next) (omega arith) (omega arith))
+      go (Whole r) e later = let p = read-places (formOf s) s at e in let w = width-some (formOf s) in ap (λ ds. definitionAt s r ∷ ds) (later (r .next) (omega arith) (omega arith))
       go End e later = refl
       go Unreadable e later = refl
 
@@ -79,18 +80,23 @@ module _ (s : List ℕ) where
 
       go : (r : Reading) → readAt s at ≡ r → recordsBy (formOf s) s r ≡ some ds
           → ((next : ℕ) (es : List Definition) → length s ≤ next + k → recordsIn (formOf s) (drop next s) ≡ some es → listed s next ≡ es) → listedBy s r ≡ ds
-      go (Whole r) e f later = let p = read-places (formOf s) s at e in past r (recordsIn (formOf s) (drop (r .next) s)) refl f (λ es. later (r .next) es (omega arith))
+      go (Whole r) e f later = let p = read-places (formOf s) s at e in let w = width-some (formOf s) in past r (recordsIn (formOf s) (drop (r .next) s)) refl f (λ es. later (r .next) es (omega arith))
       go End e f later = cc
       go Unreadable e f later = absurd (Option·none-ne-some ds f)
 
   pub listed-records : (ds : List Definition) → records s ≡ some ds → listed s (firstPlace s) ≡ ds
   listed-records ds e = listed-before (length s) (firstPlace s) ds (omega arith) e
 
--- ---- what `record_at` tells of the records from a place on
+-- ---- what a record at a place tells of the records from there on
+pub heads-at : {s : List ℕ} {at : ℕ} {r : Record} → readAt s at ≡ Whole r → Heads s at r
+heads-at {s} {at} e =
+    let p = read-places (formOf s) s at e in
+    let w = width-some (formOf s) in
+    record { headed = p .0; behind = omega arith; lies = p .1; first = listed-at s at ∙ ap (listedBy s) e }
+
+-- the same by what `record_at` ensures
 pub listed-read : {s : List ℕ} {at : ℕ} {x : Reading} → Reads s at x → listed s at ≡ listedBy s x
 listed-read {s} {at} {x} reads = listed-at s at ∙ ap (listedBy s) (sym (reads .read))
 
 pub heads : {s : List ℕ} {at : ℕ} {x : Reading} {r : Record} → Reads s at x → x ≡ Whole r → Heads s at r
-heads {s} {at} {x} {r} reads e =
-    let p = read-places (formOf s) s at (sym (reads .read) ∙ e) in
-    record { behind = p .0; lies = p .1; short = stands-short (rw e at (reads .stands)); first = listed-read reads ∙ ap (listedBy s) e }
+heads reads e = heads-at (sym (reads .read) ∙ e)

@@ -208,13 +208,13 @@ module _ (form : Form) (s : List ℕ) where
             let l = length-drop at s in let more = leb-false (length s) at e in
             records-some form (drop at s) (omega arith) ∙ headed-at (lengthsOf form (drop at s))
 
-    -- a record that is read lies behind its place, in the table
-    pub read-places : {r : Record} → readIn form s at ≡ Whole r → (at < r .name) × Lies s r
+    -- a record that is read lies right behind its header, in the table
+    pub read-places : {r : Record} → readIn form s at ≡ Whole r → (r .name ≡ at + width form) × Lies s r
     unfolding readIn
     read-places {r} = go (leb (length s) at) (lengthsOf form (drop at s)) refl refl
       where
         fits : (l : Lengths) (t : Bool) → ltb (length s - (at + width form)) (l .name + l .latex) ≡ t → at + width form ≤ length s → 0 < width form
-            → cond t Unreadable (Whole (recordOf (at + width form) l)) ≡ Whole r → (at < r .name) × Lies s r
+            → cond t Unreadable (Whole (recordOf (at + width form) l)) ≡ Whole r → (r .name ≡ at + width form) × Lies s r
         fits l true e h some-header f = let z : _≡_ {A = ℕ} 0 1 = cc in absurd (omega arith)
         fits l false e h some-header f =
             let b = ltb-false (length s - (at + width form)) (l .name + l .latex) e in
@@ -222,9 +222,9 @@ module _ (form : Form) (s : List ℕ) where
             let name = ap (λ (q : Record). q .name) same in
             let latex = ap (λ (q : Record). q .latex) same in
             let next = ap (λ (q : Record). q .next) same in
-            (omega arith, record { named = omega arith; written = omega arith; inside = omega arith })
+            (sym name, record { named = omega arith; written = omega arith; inside = omega arith })
 
-        go : (t : Bool) (o : Option Lengths) → leb (length s) at ≡ t → lengthsOf form (drop at s) ≡ o → cond t End (headed form s at o) ≡ Whole r → (at < r .name) × Lies s r
+        go : (t : Bool) (o : Option Lengths) → leb (length s) at ≡ t → lengthsOf form (drop at s) ≡ o → cond t End (headed form s at o) ≡ Whole r → (r .name ≡ at + width form) × Lies s r
         go true o e f g = let z : _≡_ {A = ℕ} 0 1 = cc in absurd (omega arith)
         go false none e f g = let z : _≡_ {A = ℕ} 0 1 = cc in absurd (omega arith)
         go false (some l) e f g =

@@ -1,6 +1,8 @@
-// The definition table's bytes: reading a record of either form, and the order in which definitions are applied.
+// The definition table's bytes: reading a record of either form, the record of a name, and the order in which definitions are applied.
+mod names;
 mod order;
 
+pub use names::find_named;
 pub use order::Cursor;
 pub use order::next;
 ghost use mathlib.Core.Path.{_≡_};

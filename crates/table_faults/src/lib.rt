@@ -1,6 +1,7 @@
 // Number 3: what makes a table faulty. The records are counted first, so that what follows looks at no more than 64.
 use table::Reading;
 use table::Record;
+use table::find_named;
 use table::first_place;
 use table::record_at;
 use text_symbols::Class;
@@ -105,16 +106,9 @@ fn is_faulty_latex(latex: &[u8]) -> bool
 fn is_named(table: &[u8], from: usize, name: &[u8]) -> bool
     ensures { λ r. ⌜ r ≡ named (now (name .entry)) (listed (now (table .entry)) from) ⌝ }
 {
-    let mut at = from;
-    loop {
-        let Reading::Whole(found) = record_at(table, at) else {
-            return false;
-        };
-        let start = found.name;
-        let end = found.latex;
-        if text_search::is_same(name, &table[start..end]) {
-            return true;
-        }
-        at = found.next;
+    match find_named(table, from, name) {
+        Reading::Whole(_) => true,
+        Reading::End => false,
+        Reading::Unreadable => false,
     }
 }

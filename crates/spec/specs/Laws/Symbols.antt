@@ -132,7 +132,7 @@ unfolding find
 contains-find w [] = refl
 contains-find w (x ∷ s) = go (starts w (x ∷ s)) (contains-find w s)
   where
-    go : (t : Bool) → isSome (find w s) ≡ contains w s → isSome (elim t [ true ↦ some (x ∷ s) | false ↦ find w s ]) ≡ t || contains w s
+    go : (t : Bool) → isSome (find w s) ≡ contains w s → isSome {A = List ℕ} (elim t [ true ↦ some (x ∷ s) | false ↦ find w s ]) ≡ t || contains w s
     go true e = refl
     go false e = e
 

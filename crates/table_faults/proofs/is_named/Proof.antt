@@ -1,76 +1,34 @@
--- `table_faults::is_named` meets its contract. The loop's invariant: the records from `at` on decide. Assumes nothing.
-use Rattle.table.specs.Listed.{listed, Heads, heads}
-use Rattle.table.proofs.Tags.{listed-none}
-use Rattle.spec.specs.Table.{named}
-use lib.ListN.{length}
-use mathlib.Core.Bool.{_||_}
-use mathlib.Core.Path.{_≡_, refl, sym, ap, _∙_}
-use Prim.Native.Nat.{_-_}
-use native.Mathlib.Omega.{arith}
+-- `table_faults::is_named` meets its contract, by what the search ensures. Assumes nothing.
+use Rattle.spec.specs.Symbols.{isSome}
+use Rattle.table.specs.Named.{latexPart, finds-named}
+use mathlib.Core.Path.{sym, ap, _∙_}
 use borrow.Author.Needs.{needs}
 use Rattle.table_faults.proofs.is_named.Statement.{statement}
 use Rattle.table_faults.proofs.is_named.Tie as tie
 
-abbrev Inv-loop : tie.InvT-loop
-Inv-loop table from name at₀ at = named name (listed table from) ≡ named name (listed table at)
-
-abbrev μ-loop : tie.MeasureT-loop
-μ-loop table from name at₀ at = length table - at
-
-returns : tie.Need-returns Inv-loop μ-loop
+returns : tie.Need-returns
 returns c =
-    let l = c .before .before in
-    sym (l .loop .inv ∙ ap (named (l .before .before .before .args .name .now)) (listed-none (c .before .record-at .ensures) (c .match .keys2)))
+    let call : tie.After-find-named = search in
+    sym (ap (λ x. isSome (latexPart x)) (c .enum-told .given .1)) ∙ finds-named (call .find-named .ensures)
 
--- what is known where a record has been read
-here : (c : tie.After-known-told Inv-loop μ-loop)
-    → (let at-loop : tie.At-loop Inv-loop μ-loop = search in let at-start : tie.Start Inv-loop μ-loop = search in Heads (at-start .args .table .now) (at-loop .loop .at) (c .before .found .given .0 .0))
-here c = heads (c .before .before .before .record-at .ensures) (c .before .found .given .1)
-
-sub-is-same : tie.Need-sub-is-same Inv-loop μ-loop
-sub-is-same c = let h = here c .lies in omega arith
-
-part-is-same-start : tie.Need-part-is-same-start Inv-loop μ-loop
-part-is-same-start c = let h = here c .lies in omega arith
-
-part-is-same-end : tie.Need-part-is-same-end Inv-loop μ-loop
-part-is-same-end c = let h = here c .lies in omega arith
-
-returns-2 : tie.Need-returns-2 Inv-loop μ-loop
+returns-2 : tie.Need-returns-2
 returns-2 c =
-    let at-known-told = c .before .before .before in
-    let at-loop : tie.At-loop Inv-loop μ-loop = search in
-    let a = at-loop .before .before .before .args in
-    let found = at-known-told .before .found .given .0 .0 in
-    let e = sym (c .before .is-same .ensures) ∙ c .if1 .taken in
-    sym (at-loop .loop .inv ∙ ap (named (a .name .now)) (here at-known-told .first) ∙ ap (λ t. t || named (a .name .now) (listed (a .table .now) (found .next))) e)
+    let call : tie.After-find-named = search in
+    sym (ap (λ x. isSome (latexPart x)) (c .enum-told2 .given .1)) ∙ finds-named (call .find-named .ensures)
 
-loop-less : tie.Need-loop-less Inv-loop μ-loop
-loop-less c = let h = here (c .before .before .before) in let b = h .behind in let p = h .lies in omega arith
-
-loop-again : tie.Need-loop-again Inv-loop μ-loop
-loop-again c =
-    let at-known-told = c .before .before .before in
-    let at-loop : tie.At-loop Inv-loop μ-loop = search in
-    let a = at-loop .before .before .before .args in
-    let found = at-known-told .before .found .given .0 .0 in
-    let e = sym (c .before .is-same .ensures) ∙ c .if1 .left in
-    at-loop .loop .inv ∙ ap (named (a .name .now)) (here at-known-told .first) ∙ ap (λ t. t || named (a .name .now) (listed (a .table .now) (found .next))) e
+returns-3 : tie.Need-returns-3
+returns-3 c =
+    let call : tie.After-find-named = search in
+    sym (ap (λ x. isSome (latexPart x)) (c .enum-told3 .given .1)) ∙ finds-named (call .find-named .ensures)
 
 pub is-named-spec : {M : Type 1} → statement M
 is-named-spec =
     tie.close
     (tie.spec
-    Inv-loop
-    μ-loop
-    (λ c. refl)
     (λ c κs. search needs)
     (λ c. search needs)
+    (λ c. search needs)
+    (λ c. search needs)
     returns
-    sub-is-same
-    part-is-same-start
-    part-is-same-end
-    (λ c κs. search needs)
     returns-2
-    loop-less
-    loop-again)
+    returns-3)

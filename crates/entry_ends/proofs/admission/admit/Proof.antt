@@ -1,48 +1,47 @@
 -- `entry_ends::admission::admit` meets its contract: by the law for each way through it.
 -- Assumes nothing.
-use mathlib.Core.Path.{sym, _∙_}
+use mathlib.Core.Path.{subst}
+use native.Mathlib.Omega.{arith}
 use borrow.Author.Needs.{needs}
-use Rattle.entry_ends.specs.Ways.{admits-long, admits-foreign, admits-faulty, admits-text}
+use Rattle.entry_ends.specs.Answer.{Checks}
+use Rattle.entry_ends.specs.declared.admission.Verdict.the-variants.{Passed}
+use Rattle.entry_ends.specs.Ways.{checks-short, admits-refused, admits-text}
 use Rattle.entry_ends.proofs.admission.admit.Statement.{statement}
 use Rattle.entry_ends.proofs.admission.admit.Tie as tie
 
+-- the checks have let the formula pass
+passes : (c : tie.After-enum-told) → (let at-start : tie.Start = search in Checks (at-start .args .formula .now) (at-start .args .table .now) Passed)
+passes c = let call : tie.After-check = search in subst (Checks _ _) (c .enum-told .given .1) (call .check .ensures)
+
+copy-over-requires : tie.Need-copy-over-requires
+copy-over-requires c κs =
+    let told : tie.After-enum-told = search in
+    let at-start : tie.Start = search in
+    let wide = at-start .pre in
+    let short = checks-short (passes told) in
+    omega arith
+
 returns : tie.Need-returns
 returns c =
+    let told : tie.After-enum-told = search in
+    let copied : tie.After-copy-over = search in
     let at-start : tie.Start = search in
-    admits-long (at-start .pre) (c .if1 .taken)
+    admits-text (at-start .pre) (passes told) (copied .copy-over .ensures)
 
 returns-2 : tie.Need-returns-2
 returns-2 c =
-    let else1 = c .before .before in
+    let call : tie.After-check = search in
     let at-start : tie.Start = search in
-    admits-foreign (at-start .pre) (else1 .if1 .left) (sym (c .before .has-foreign .ensures) ∙ c .if2 .taken)
-
-returns-3 : tie.Need-returns-3
-returns-3 c =
-    let else2 = c .before .before in
-    let else1 : tie.Else1 = search in
-    let at-start : tie.Start = search in
-    admits-faulty (at-start .pre) (else1 .if1 .left) (sym (else2 .before .has-foreign .ensures) ∙ else2 .if2 .left)
-    (sym (c .before .is-faulty .ensures) ∙ c .if3 .taken)
-
-returns-4 : tie.Need-returns-4
-returns-4 c =
-    let else3 : tie.Else3 = search in
-    let else2 : tie.Else2 = search in
-    let else1 : tie.Else1 = search in
-    let at-start : tie.Start = search in
-    admits-text (at-start .pre) (else1 .if1 .left) (sym (else2 .before .has-foreign .ensures) ∙ else2 .if2 .left)
-    (sym (else3 .before .is-faulty .ensures) ∙ else3 .if3 .left) (c .before .before .copy-over .ensures)
+    admits-refused (at-start .pre) (subst (Checks _ _) (c .before .why .given .1) (call .check .ensures))
 
 pub admit-spec : {M : Type 1} → statement M
 admit-spec =
     tie.close
     (tie.spec
-    returns
-    (λ c κs. search needs)
-    returns-2
-    (λ c κs. search needs)
-    returns-3
     (λ c κs. search needs)
     (λ c. search needs)
-    returns-4)
+    copy-over-requires
+    (λ c. search needs)
+    (λ c. search needs)
+    returns
+    returns-2)

@@ -1,13 +1,13 @@
 -- `table::order::next` meets its contract. The loop's invariant: the first of what is left is the sooner of what has been chosen and the first
 -- of those from `at` on. Assumes nothing.
-use mathlib.Core.Path.{_≡_, sym, ap, _∙_}
+use mathlib.Core.Path.{_≡_, sym, ap, _∙_, subst}
 use Prim.Native.Nat.{_-_}
 use native.Mathlib.Omega.{arith}
 use lib.ListN.{length}
 use borrow.Author.Needs.{needs}
 use Rattle.spec.specs.Table.{inOrder}
 use Rattle.spec.specs.Laws.Selection.{firstOf}
-use Rattle.table.specs.Reading.{ReadingLies, whole, end, firstPlace}
+use Rattle.table.specs.Reading.{ReadingLies, end, firstPlace}
 use Rattle.table.specs.Listed.{listed, Heads, heads}
 use Rattle.table.specs.Order.{definitionsLeft, choosing, choosing-none, choosing-found, choosing-other}
 use Rattle.table.specs.declared.Reading.the-variants.{End}
@@ -50,8 +50,8 @@ sooner-requires : tie.Need-sooner-requires Inv-loop μ-loop
 sooner-requires c κs =
     let at-known-told : tie.After-known-told Inv-loop μ-loop = search in
     let at-loop : tie.At-loop Inv-loop μ-loop = search in
-    let h = here at-known-told in
-    (at-loop .loop .inv .1, whole (h .lies) (h .short))
+    let at-record : tie.After-record-at Inv-loop μ-loop = search in
+    (at-loop .loop .inv .1, subst (ReadingLies _) (at-known-told .before .found .given .1) (at-record .record-at .ensures .stands))
 
 loop-less : tie.Need-loop-less Inv-loop μ-loop
 loop-less c =
