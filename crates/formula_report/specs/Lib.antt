@@ -1,4 +1,3 @@
 -- What the contracts cite, and laws about it.
 pub mod Decimal
 pub mod Standing
-pub mod Reports

@@ -1,11 +1,13 @@
-// The library that C and Rust link: the entry and the plain check, each with numbers for its answer.
+// The library that C and Rust link: the entry, the plain check and the word under the pointer, each with numbers for its answer.
 use math_conv::Answer;
 use plain_check::PlainAnswer;
+use word_at::WordPlace;
 ghost use mathlib.Core.Path.{_≡_};
 ghost use mathlib.Core.Bool.{false};
 ghost use Rattle.spec.specs.Pipeline.{Call};
+ghost use Rattle.spec.specs.WordAt.{wordAt, numberOf, partOf};
 ghost use Rattle.plain_check.specs.Check.{Checked as PlainChecked};
-ghost use Rattle.jistranu.specs.Codes.{resultOf, plainAnswerOf};
+ghost use Rattle.jistranu.specs.Codes.{resultOf, plainAnswerOf, partCoded};
 
 // 0, and in `count` the bytes of LaTeX at the start of `output`; or the number of the refusal, and 0.
 #[no_mangle]
@@ -48,6 +50,42 @@ pub extern "C" fn jistranu_plain_check(formula: &[u8], atoms: &mut usize) -> boo
         PlainAnswer::No => {
             *atoms = 0;
             false
+        }
+    }
+}
+
+// 0, and the part that the word at the place stands for: `defined` if it is a name's LaTeX, from `start` of the table on, and else the word
+// itself, from `start` of the formula on; `length` bytes of it. Or the number of the refusal, and the formula's empty beginning.
+#[no_mangle]
+pub extern "C" fn jistranu_word_at(
+    formula: &[u8],
+    table: &[u8],
+    place: usize,
+    defined: &mut bool,
+    start: &mut usize,
+    length: &mut usize,
+) -> u64
+    ensures { λ r. ⌜ r ≡ numberOf (wordAt (now (formula .entry)) (now (table .entry)) place) ⌝ }
+    ensures { λ _. ⌜ partCoded (now (defined .exit)) (now (start .exit)) (now (length .exit)) ≡ partOf (wordAt (now (formula .entry)) (now (table .entry)) place) ⌝ }
+{
+    match word_at::find_word(formula, table, place) {
+        WordPlace::InFormula(from, to) => {
+            *defined = false;
+            *start = from;
+            *length = to - from;
+            0
+        }
+        WordPlace::InTable(from, to) => {
+            *defined = true;
+            *start = from;
+            *length = to - from;
+            0
+        }
+        WordPlace::Refused(why) => {
+            *defined = false;
+            *start = 0;
+            *length = 0;
+            text::number(why)
         }
     }
 }

@@ -9,22 +9,11 @@ use Prim.Native.Nat.{ℕ, suc, _<_}
 use native.Mathlib.Omega.{arith}
 use lib.Dec.{eqb}
 use lib.ListN.{length, getD, drop, replicate}
+use borrow.Author.Tests.{ne-eqb}
 use Rattle.spec.specs.Result.{Result, passed, refused}
 use Rattle.spec.specs.Pipeline.{answerOf, outputAfter}
-use Rattle.text.specs.Stage.{number as numbered}
+use Rattle.text.specs.Stage.{number as numbered, number-between}
 use Rattle.text.specs.declared.Refusal.{Refusal}
-use Rattle.text.specs.declared.Refusal.the-variants.{
-  ForeignByte,
-  LongFormula,
-  FaultyTable,
-  NarrowWork,
-  Overgrown,
-  LostBlock,
-  Unsettled,
-  BareDelimiter,
-  BarredSolidus,
-  ShortOutput,
-}
 use Rattle.entry_ends.specs.declared.Answer.{Answer}
 use Rattle.entry_ends.specs.declared.Answer.the-variants.{Done, Refused}
 use Rattle.entry_ends.specs.Answer.{meaning}
@@ -55,16 +44,7 @@ vouched-map Output f p = tt
 vouched-map Work f p = tt
 
 not-done : (why : Refusal) → eqb (numbered why) 0 ≡ false
-not-done ForeignByte = refl
-not-done LongFormula = refl
-not-done FaultyTable = refl
-not-done NarrowWork = refl
-not-done Overgrown = refl
-not-done LostBlock = refl
-not-done Unsettled = refl
-not-done BareDelimiter = refl
-not-done BarredSolidus = refl
-not-done ShortOutput = refl
+not-done why = let some = number-between why .0 in ne-eqb (numbered why) 0 (λ e. omega arith)
 
 -- ---- the two kinds of answers
 module _ {answer : Answer} {number : ℕ} (latex : List ℕ) {old output : List ℕ} where

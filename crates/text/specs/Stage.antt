@@ -1,5 +1,5 @@
 -- How far a formula has come, and what every stage promises.
---     number      document 01's number of a refusal
+--     number      the number of a refusal: document 01's, and document 02's 16. `number-between`: from 1 to 16
 --     shown       what a progress means: the text in its place of the buffer, or the refusal
 --     Ready       what a stage asks: the work buffer is large enough, and the text well placed
 --     Answered    what a stage ensures: an equation with its definition. `Staged`: and what lies beyond the two regions is as it was
@@ -32,6 +32,7 @@ use Rattle.text.specs.declared.Refusal.the-variants.{
   BareDelimiter,
   BarredSolidus,
   ShortOutput,
+  NoWord,
 }
 use Rattle.text.specs.declared.Progress.{Progress}
 use Rattle.text.specs.declared.Progress.the-variants.{Text, Refused}
@@ -47,6 +48,20 @@ number Unsettled = 7
 number BareDelimiter = 8
 number BarredSolidus = 9
 number ShortOutput = 10
+number NoWord = 16
+
+pub number-between : (why : Refusal) → (0 < number why) × (number why ≤ 16)
+number-between ForeignByte = (omega arith, omega arith)
+number-between LongFormula = (omega arith, omega arith)
+number-between FaultyTable = (omega arith, omega arith)
+number-between NarrowWork = (omega arith, omega arith)
+number-between Overgrown = (omega arith, omega arith)
+number-between LostBlock = (omega arith, omega arith)
+number-between Unsettled = (omega arith, omega arith)
+number-between BareDelimiter = (omega arith, omega arith)
+number-between BarredSolidus = (omega arith, omega arith)
+number-between ShortOutput = (omega arith, omega arith)
+number-between NoWord = (omega arith, omega arith)
 
 abbrev pub shown : Progress → List ℕ → Result (List ℕ)
 shown (Text at n) w = passed (part at n w)

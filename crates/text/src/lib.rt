@@ -20,7 +20,8 @@ pub const MOST_FORMULA: usize = 4_096;
 // The most symbols of a stage's finished text, and so the room of each of the two regions that texts lie in.
 pub const CAP: usize = 8_192;
 
-// Why a call is refused, by the trade's words. `LostBlock` is kept for its number: no call gives it.
+// Why a call is refused, by the trade's words. `LostBlock` is kept for its number: no call gives it. `NoWord` is met by the word under
+// the pointer alone.
 pub enum Refusal {
     ForeignByte,
     LongFormula,
@@ -32,9 +33,10 @@ pub enum Refusal {
     BareDelimiter,
     BarredSolidus,
     ShortOutput,
+    NoWord,
 }
 
-// Document 01's number of a refusal.
+// The number of a refusal: document 01's, and document 02's 16.
 pub fn number(why: Refusal) -> u64
     ensures { λ r. ⌜ r ≡ numbered why ⌝ }
 {
@@ -49,6 +51,7 @@ pub fn number(why: Refusal) -> u64
         Refusal::BareDelimiter => 8,
         Refusal::BarredSolidus => 9,
         Refusal::ShortOutput => 10,
+        Refusal::NoWord => 16,
     }
 }
 

@@ -2,10 +2,10 @@
 use Prim.Native.Nat.{_≤_}
 use native.Mathlib.Omega.{arith}
 use lib.ListN.{length-append}
+use Rattle.text.specs.Stage.{number-between}
 use borrow.Author.Needs.{needs}
 use Rattle.formula_report.specs.Decimal.{four-digits}
 use Rattle.formula_report.specs.Standing.{extends-more, extends-stands}
-use Rattle.formula_report.specs.Reports.{number-small}
 use Rattle.formula_report.proofs.put_refusal.Statement.{statement}
 use Rattle.formula_report.proofs.put_refusal.Tie as tie
 
@@ -17,10 +17,10 @@ abbrev after-number : tie.After-put2 → tie.After-put-decimal
 after-number c = let known = c .before .before .before in known .before .before
 
 -- ---- the number is small
-small : (c : tie.After-number) → c .number .result ≤ 10
+small : (c : tie.After-number) → c .number .result ≤ 16
 small c =
     let known = after-refused c .before .before in
-    let k = number-small (known .before .before .args .why) in
+    let k = number-between (known .before .before .args .why) in
     let e = c .number .ensures in
     omega arith
 
