@@ -19,7 +19,7 @@ use Rattle.text.specs.Stage.{shown, Answered}
 use Rattle.text.specs.declared.Progress.{Progress}
 use Rattle.held_laws.specs.Marks.{hasMark}
 use Rattle.held_laws.specs.Instances.{any-unmarked}
-use Rattle.stage_laws.specs.Late.{Late, passes, refuses}
+use Rattle.stage_laws.specs.Late.{notGiven, Late, passes, refuses}
 use Rattle.stage_laws.specs.Answers.{converted-late}
 use Rattle.stages.specs.Fit.{Admissible}
 use Rattle.entry_ends.specs.Answer.{meaning, Admits, PutOut}
@@ -58,7 +58,7 @@ admits-fit {formula} {table} {w} a =
 -- ---- the call
 cleared : (work : List ℕ) {r : Result (List ℕ)} → Late r → workAfter r work ≡ replicate (length work) 0
 cleared work passes = refl
-cleared work (refuses {n} e) = rw (or-neither (eqb n 4) (eqb n 6) e .0)
+cleared work (refuses {n} e) = rw (or-neither (eqb n 4) (notGiven n) e .0)
 
 module _ {formula table work output : List ℕ} {display : Bool} where
   pub call-narrow : length work < leastWork → Call formula table display work output (refused 4) work output

@@ -1,5 +1,6 @@
--- No stage refuses by number 4, so that the work buffer is cleared after every stage's refusal, and none by number 6. Assumes nothing.
---     Late             a result that is refused by neither
+-- No stage refuses by number 4, so that the work buffer is cleared after every stage's refusal, none by number 6, and none by a number above 10.
+-- Assumes nothing.
+--     Late             a result that is refused by none of these
 --     stages-late      that of all stages, `typstToLatex`
 use mathlib.Core.Path.{_≡_, refl}
 use mathlib.Core.Bool.{Bool, true, false, cond, _||_}
@@ -24,18 +25,22 @@ use Rattle.spec.specs.Fractions.{convertRegularFractions, mostRounds, settle, c
 use Rattle.spec.specs.Finish.{escapeSetBraces, bareDelimiter, lr, convertLr, sizeDelimitersToContent, escapePercent, convertAlignment, dropThinSpaceAfterCommands}
 use Rattle.spec.specs.Pipeline.{markSolidus, unmarkSolidus, onDisplay, convertSyntax, typstToLatex}
 
-abbrev pub fourOrSix : ℕ → Bool
-fourOrSix n = eqb n 4 || eqb n 6
+-- the numbers of refusals that no call of the entry gives
+abbrev pub notGiven : ℕ → Bool
+notGiven n = eqb n 6 || ltb 10 n
+
+abbrev pub early : ℕ → Bool
+early n = eqb n 4 || notGiven n
 
 pub data Late {A : Type 0} : Result A → Type 0 where
   passes : {a : A} → Late (passed a)
-  refuses : {n : ℕ} → fourOrSix n ≡ false → Late (refused n)
+  refuses : {n : ℕ} → early n ≡ false → Late (refused n)
 
 pub then-late : {A B : Type 0} {r : Result A} (f : A → Result B) → Late r → ((a : A) → Late (f a)) → Late (r then f)
 then-late f (passes {a}) next = next a
 then-late f (refuses e) next = refuses e
 
-cond-late : {A : Type 0} (b : Bool) (n : ℕ) (a : A) → fourOrSix n ≡ false → Late (cond b (refused n) (passed a))
+cond-late : {A : Type 0} (b : Bool) (n : ℕ) (a : A) → early n ≡ false → Late (cond b (refused n) (passed a))
 cond-late true n a e = refuses e
 cond-late false n a e = passes
 

@@ -1,13 +1,15 @@
 -- Two tables with the same records, in whatever order, give the same answer and bytes in every call. Assumes nothing.
 --     SameRecords        both are read to the end, and the records of one are those of the other
 --     CallsAlike         two calls that differ in the table alone answer the same and leave the same bytes
+--     definitions-both   number 3 refuses both, or neither
 --     calls-alike        so it is where both tables have more than 32,768 bytes, or neither has
 --     calls-same         so it is where both are of one form
 --     wide-calls-same    so it is where one is narrow and the other wide, if the wide one, which is longer, is not too long
 use mathlib.Core.Path.{_≡_, refl, sym, ap, ap₂, _∙_}
 use mathlib.Core.Bool.{Bool, true, false, _||_}
-use mathlib.Core.List.{List, []}
-use mathlib.Core.Option.{some, Option·getD}
+use mathlib.Core.List.{List}
+use mathlib.Core.Option.{none, some}
+use mathlib.Core.Logic.{_⊎_, inl, inr, ⊎-elim}
 use Prim.Native.Nat.{ℕ, _+_, _≤_}
 use native.Mathlib.Omega.{arith}
 use lib.Dec.{ltb}
@@ -20,7 +22,7 @@ use Rattle.spec.specs.Definitions.{applyDefinitions, applyDefinitionsOutsideTex
 use Rattle.spec.specs.Finish.{convertAlignment, dropThinSpaceAfterCommands}
 use Rattle.spec.specs.Pipeline.{convertSyntax, typstToLatex, definitionsOr, readable, admitted, fitting, converted, answerOf, outputAfter, workAfter, Call}
 use Rattle.spec.specs.Laws.Booleans.{or-neither}
-use Rattle.spec.specs.Laws.Order.{in-order-same}
+use Rattle.spec.specs.Laws.Order.{in-order-same, Distinct}
 use Rattle.spec.specs.Laws.Table.{bytesOfRecords, records-long, bytes-wide, bytes-same, length-same, faulty-same, sound-distinct, definitionsUnless, wrong, definitions-unless, admitted-same}
 use Rattle.stage_laws.specs.Stages.{beforeDefinitions}
 
@@ -63,26 +65,31 @@ module _ {table table′ : List ℕ} (t : SameRecords table table′) where
   wrong-same : wrong (t .first) ≡ wrong (t .second)
   wrong-same = ap₂ (λ n b. ltb mostRecords n || b) (length-same (t .rearranged)) (faulty-same (t .rearranged))
 
-  -- both are refused, or both are sound and have one order
-  definitions-same :
-      SameLimit table table′ → (formula : List ℕ)
-      → (readable formula (definitions table) ≡ readable formula (definitions table′)) × (inOrder (definitionsOr table) ≡ inOrder (definitionsOr table′))
-  definitions-same limit formula =
+  -- both are refused, or both are sound, and then no name occurs twice
+  pub definitions-both :
+      SameLimit table table′
+      → ((definitions table ≡ none) × (definitions table′ ≡ none))
+      ⊎ ((definitions table ≡ some (t .first)) × ((definitions table′ ≡ some (t .second)) × Distinct (t .first)))
+  definitions-both limit =
       rw (definitions-unless table (t .first) (t .read), definitions-unless table′ (t .second) (t .read′), ← limit, ← wrong-same)
       (go (ltb mostBytes (length table)) (wrong (t .first)) refl)
     where
       go : (a b : Bool) → wrong (t .first) ≡ b
-          → (readable formula (definitionsUnless a b (t .first)) ≡ readable formula (definitionsUnless a b (t .second)))
-          × (inOrder (Option·getD (definitionsUnless a b (t .first)) []) ≡ inOrder (Option·getD (definitionsUnless a b (t .second)) []))
-      go true b h = (refl, refl)
-      go false true h = (refl, refl)
-      go false false h = (
-        refl,
-        in-order-same (t .rearranged) (sound-distinct (t .first) (or-neither (ltb mostRecords (length (t .first))) (faulty (t .first)) h .1)),
-      )
+          → ((definitionsUnless a b (t .first) ≡ none) × (definitionsUnless a b (t .second) ≡ none))
+          ⊎ ((definitionsUnless a b (t .first) ≡ some (t .first)) × ((definitionsUnless a b (t .second) ≡ some (t .second)) × Distinct (t .first)))
+      go true b h = inl (refl, refl)
+      go false true h = inl (refl, refl)
+      go false false h = inr (refl, (refl, sound-distinct (t .first) (or-neither (ltb mostRecords (length (t .first))) (faulty (t .first)) h .1)))
+
+  -- both are refused, or both have one order
+  definitions-same :
+      SameLimit table table′ → (formula : List ℕ)
+      → (readable formula (definitions table) ≡ readable formula (definitions table′)) × (inOrder (definitionsOr table) ≡ inOrder (definitionsOr table′))
+  definitions-same limit formula =
+      ⊎-elim (λ n. rw (n .0, n .1) (refl, refl)) (λ s. rw (s .0, s .1 .0) (refl, in-order-same (t .rearranged) (s .1 .1))) (definitions-both limit)
 
   -- ---- how long they are
-  form-limit : formOf table ≡ formOf table′ → SameLimit table table′
+  pub form-limit : formOf table ≡ formOf table′ → SameLimit table table′
   form-limit e =
       let form = formOf table′ in
       ap (ltb mostBytes)
@@ -100,7 +107,7 @@ module _ {table table′ : List ℕ} (t : SameRecords table table′) where
       let d = bytes-wide (t .second) in
       omega arith
 
-  wide-limit : formOf table ≡ narrow → formOf table′ ≡ wide → length table′ ≤ mostBytes → SameLimit table table′
+  pub wide-limit : formOf table ≡ narrow → formOf table′ ≡ wide → length table′ ≤ mostBytes → SameLimit table table′
   wide-limit e f short =
       let longer = wide-longer e f in
       le-ltb mostBytes (length table) (omega arith) ∙ sym (le-ltb mostBytes (length table′) (omega arith))

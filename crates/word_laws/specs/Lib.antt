@@ -1,0 +1,3 @@
+-- What holds of the word under the pointer.
+pub mod Longest
+pub mod SameWords
