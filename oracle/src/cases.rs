@@ -52,13 +52,13 @@ pub fn from_bytes(bytes: &[u8]) -> Option<Vec<Recorded>> {
     rest.is_empty().then_some(recorded)
 }
 
-fn take<'a>(rest: &mut &'a [u8], length: usize) -> Option<&'a [u8]> {
+pub fn take<'a>(rest: &mut &'a [u8], length: usize) -> Option<&'a [u8]> {
     let part = rest.get(..length)?;
     *rest = &rest[length..];
     Some(part)
 }
 
-fn number(rest: &mut &[u8], width: usize) -> Option<usize> {
+pub fn number(rest: &mut &[u8], width: usize) -> Option<usize> {
     Some(take(rest, width)?.iter().fold(0, |n, &b| n << 8 | usize::from(b)))
 }
 

@@ -26,7 +26,12 @@ mod table;
 mod tables;
 mod traps;
 pub mod veil;
+mod word;
+mod word_cases;
+mod word_file;
 mod word_tables;
+#[cfg(feature = "library")]
+mod word_trial;
 mod words;
 mod workers;
 
@@ -48,8 +53,12 @@ judge short [FILE]                   makes the list of short plain formulas (def
 judge smallest                       the shortest texts that 5 and 7 to 9 refuse and in which the Rust loses a block, by a
                                      search through all of them; some minutes
 judge stages < LINES                 each line by one function of the Rust, as the program stage_lines answers it
+judge word-cases SEED                the cases of the program word_places (request A14), to standard output
+judge words < CASES                  for each place of each case: PLACE ok PART, or PLACE refused NUMBER
+judge word-dump < CASES              the same as lines: index formula-hex table-hex place number side start length
 judge compare SEED N                 the library against the judge; only as oracle/trial builds it
-judge plain SEED N                   the library's plain check against another parser; only as oracle/trial builds it";
+judge plain SEED N                   the library's plain check against another parser; only as oracle/trial builds it
+judge words SEED N                   the library's word under the pointer against the judge's; only as oracle/trial builds it";
 
 /// The build folder is target/oracle of the repository.
 const RECORDED: &str = concat!(env!("CARGO_MANIFEST_DIR"), "/../../crates/replay/data/cases.bin");
@@ -82,10 +91,15 @@ fn run() -> bool {
         ["short", file] => short(file),
         ["smallest"] => smallest::smallest(),
         ["stages"] => stages::stages(),
+        ["word-cases", seed] => word_cases(number(seed)),
+        ["words"] => word_file::words(),
+        ["word-dump"] => word_file::dump(),
         #[cfg(feature = "library")]
         ["compare", seed, n] => compare::compare(number(seed), number(n), &read_recorded(RECORDED)),
         #[cfg(feature = "library")]
         ["plain", seed, n] => plain_trial::trial(number(seed), number(n)),
+        #[cfg(feature = "library")]
+        ["words", seed, n] => word_trial::trial(number(seed), number(n)),
         _ => {
             eprintln!("{USAGE}");
             false
@@ -194,6 +208,13 @@ fn short(file: &str) -> bool {
     }
     println!("{}: {}", if same { "same" } else { "written" }, list.lines().last().unwrap());
     true
+}
+
+fn word_cases(seed: u64) -> bool {
+    let cases = word_cases::cases(seed);
+    let bytes = word_file::to_bytes(&cases);
+    assert_eq!(word_file::from_bytes(&bytes).as_ref(), Some(&cases), "the file reads back");
+    std::io::stdout().write_all(&bytes).is_ok()
 }
 
 fn crosscheck(seed: u64, n: u64, file: &str) -> bool {

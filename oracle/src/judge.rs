@@ -97,18 +97,23 @@ impl Stages {
     }
 }
 
-/// Numbers 4, 2, 1, 3 in this order; None where the call goes on to the stages.
+/// Numbers 4, 2, 1, 3 in this order; the table's records where the call goes on to the stages.
 pub fn refused_before_stages(case: &Case) -> Result<Vec<Record>, u8> {
     if case.work < WORK_BYTES {
         return Err(4);
     }
-    if case.formula.len() > FORMULA_BYTES {
+    refused_inputs(&case.formula, &case.table)
+}
+
+/// Numbers 2, 1, 3 in this order; else the table's records.
+pub fn refused_inputs(formula: &[u8], table: &[u8]) -> Result<Vec<Record>, u8> {
+    if formula.len() > FORMULA_BYTES {
         return Err(2);
     }
-    if !case.formula.iter().all(|&b| table::is_own_byte(b)) {
+    if !formula.iter().all(|&b| table::is_own_byte(b)) {
         return Err(1);
     }
-    table::read(&case.table).ok_or(3)
+    table::read(table).ok_or(3)
 }
 
 pub fn judge(case: &Case) -> Answer {

@@ -5,7 +5,7 @@ use super::table::{Form, TABLE_BYTES};
 use super::{lengths, tables};
 
 /// The table of these names with their LaTeX.
-fn table(form: Form, definitions: &[(&str, &str)]) -> Vec<u8> {
+pub fn table_in(form: Form, definitions: &[(&str, &str)]) -> Vec<u8> {
     let records = definitions.iter().flat_map(|(name, latex)| form.record_bytes(name.as_bytes(), latex.as_bytes()));
     form.beginning().iter().copied().chain(records).collect()
 }
@@ -15,7 +15,7 @@ fn case(formula: &str, table: Vec<u8>) -> Case {
 }
 
 fn wide(formula: &str, definitions: &[(&str, &str)]) -> Case {
-    case(formula, table(Form::Wide, definitions))
+    case(formula, table_in(Form::Wide, definitions))
 }
 
 /// LaTeX of this length that no stage changes and that is nowhere the same, so that a byte at a wrong place shows.
@@ -30,7 +30,7 @@ pub fn cases() -> Vec<Case> {
     [long_names(), lengths_in_headers(), matrix(), longest_latex(), of_blocks(), greatest()].concat()
 }
 
-fn long_names() -> Vec<Case> {
+pub fn long_names() -> Vec<Case> {
     let name = |length: usize| "n".repeat(length);
     let mut cases = Vec::new();
     for length in [63, 64, 127] {
@@ -54,19 +54,19 @@ fn long_names() -> Vec<Case> {
 }
 
 /// Lengths of LaTeX around those for which a byte of the header is 00, each with another record behind it.
-fn lengths_in_headers() -> Vec<Case> {
+pub fn lengths_in_headers() -> Vec<Case> {
     let mut cases = Vec::new();
     for form in [Form::Narrow, Form::Wide] {
         for length in [255, 256, 257, 768] {
             let definitions = [("gain", &*counted(length)), ("ab", "x")];
-            cases.push(case("ab/gain", table(form, &definitions)));
+            cases.push(case("ab/gain", table_in(form, &definitions)));
         }
     }
     for length in [1_023, 1_024] {
         cases.push(wide("ab/gain", &[("gain", &*counted(length)), ("ab", "x")]));
     }
     // The narrow form cuts 1,024 to 0: the LaTeX itself is then read as records.
-    cases.push(case("ab/gain", table(Form::Narrow, &[("gain", &*counted(1_024)), ("ab", "x")])));
+    cases.push(case("ab/gain", table_in(Form::Narrow, &[("gain", &*counted(1_024)), ("ab", "x")])));
     cases.push(wide("ab/2", &[("gain", &*counted(4_096)), ("ab", "x")]));
     cases
 }
@@ -105,7 +105,7 @@ fn of_blocks() -> Vec<Case> {
 }
 
 /// The greatest table, whose last record is used, and one byte more.
-fn greatest() -> Vec<Case> {
+pub fn greatest() -> Vec<Case> {
     let last = Form::Wide.record_bytes(b"gain", b"\\mathrm{G}");
     [TABLE_BYTES, TABLE_BYTES + 1]
         .map(|bytes| case("gain/2", [tables::full(bytes - last.len(), Form::Wide), last.clone()].concat()))

@@ -1,6 +1,6 @@
-// Answers the cases of standard input by the function that the program `formula` prints. `tests/formula` writes the cases and what is expected.
-//
-// A case is the length of its input and that of its table, two bytes each, most significant first; then the input; then the table.
+// Answers the cases of standard input by the function that the program `formula` prints. The parts of a case are its input and its table.
+// `tests/formula` writes the cases and what is expected.
+use case_input::Next;
 use formula_text::INPUT;
 use formula_text::OUTPUT;
 use formula_text::TABLE;
@@ -21,24 +21,11 @@ fn main() {
 
 // Whether there was a case.
 fn answer_next() -> bool {
-    let mut lengths = [0u8; 4];
-    if io::read_full(0, &mut lengths) < 4 {
+    let Next::Case(n, m) = case_input::next_case(INPUT, TABLE) else {
         return false;
-    }
-    let n = number(lengths[0], lengths[1]);
-    let m = number(lengths[2], lengths[3]);
-    if INPUT < n {
-        return false;
-    }
-    if TABLE < m {
-        return false;
-    }
+    };
     answer(n, m);
     true
-}
-
-fn number(high: u8, low: u8) -> usize {
-    (high as usize) * 256 + (low as usize)
 }
 
 // What stands behind the bytes that are read, or in the buffers before, must not count, so it is no zeros.

@@ -1,0 +1,2 @@
+-- What the contracts of `case_input` cite.
+pub mod Lengths
