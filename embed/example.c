@@ -1,4 +1,5 @@
-/* Converts some correction formulas of a calibration bench, with definitions. Built and run by embed/run-c. */
+/* Converts some correction formulas of a calibration bench, with definitions, and shows what the words of one stand for. Built and
+ * run by embed/run-c. */
 #include "jistranu.h"
 
 #include <stdio.h>
@@ -45,6 +46,21 @@ static void convert(const char *formula)
         printf("    plain, %zu atoms\n", atoms);
 }
 
+static void show_word(const char *formula, size_t place)
+{
+    bool defined;
+    size_t start, length;
+    uint64_t answer = jistranu_word_at(
+        (const uint8_t *)formula, strlen(formula), table, table_len, place, &defined, &start, &length);
+    printf("%s at %zu\n", formula, place);
+    if (answer != JISTRANU_DONE)
+        printf("    refused %d\n", (int)answer);
+    else if (defined)
+        printf("    defined as %.*s\n", (int)length, (const char *)table + start);
+    else
+        printf("    the word %.*s\n", (int)length, formula + start);
+}
+
 int main(void)
 {
     define("gain", "\\mathrm{G}");
@@ -58,5 +74,9 @@ int main(void)
     define("gain", "\\mathrm{G}");
     define("Uref", "U_{\\mathrm{ref}}");
     convert("Uref/gain");
+    show_word("gain/2 + x_gain", 0);
+    show_word("gain/2 + x_gain", 4);
+    show_word("gain/2 + x_gain", 5);
+    show_word("gain/2 + x_gain", 11);
     return 0;
 }

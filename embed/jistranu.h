@@ -4,10 +4,10 @@
  * may call it, each with buffers of its own.
  *
  * Measured: a conversion takes up to 0.8 MB of stack (0.4 MB without a table), a plain check up to 1.2 MB: 192 and 272 bytes for each
- * parenthesis that is open. Where none is, 5 KB and 1.5 KB.
+ * parenthesis that is open. Where none is, 5 KB and 1.5 KB. The word under the pointer takes less than 1 KB.
  *
  * Pointers are never null. Where a length is 0, the pointer may be any other, as that of an empty string.
- * `work`, `output` and `count` overlap neither each other nor the formula and the table.
+ * What a call writes (`work`, `output`, `count`, `atoms`, `defined`, `start`, `length`) overlaps nothing else that it is handed.
  */
 #ifndef JISTRANU_H
 #define JISTRANU_H
@@ -28,12 +28,13 @@ enum {
     JISTRANU_LATEX_BYTES = 1023,      /* and its LaTeX this many */
     JISTRANU_WIDE_NAME_BYTES = 127,   /* in the wide form a defined name has at most this many bytes, */
     JISTRANU_WIDE_LATEX_BYTES = 8191, /* and its LaTeX this many */
-    JISTRANU_WORK_BYTES = 32768,      /* a call is lent at least this many bytes to work in */
+    JISTRANU_WORK_BYTES = 32768,      /* a conversion is lent at least this many bytes to work in */
     JISTRANU_OUTPUT_BYTES = 8192,     /* no answer is longer: with this room, number 10 is never met */
 };
 
-/* What a call answers: 0, or why there is no LaTeX. Where several reasons hold, 4 comes first, then 2, 1 and 3, then the
- * first of 5 to 9 that is met on the way, and 10 last. */
+/* What a conversion and jistranu_word_at answer: 0, or why there is no LaTeX or no word. Where several reasons hold, a conversion
+ * answers 4 first, then 2, 1 and 3, then the first of 5 to 9 that is met on the way, and 10 last; jistranu_word_at answers 2, 1
+ * and 3 in this order, and 16 last. No call answers 11 to 15. */
 enum jistranu_answer {
     JISTRANU_DONE = 0,
     JISTRANU_FOREIGN_BYTE = 1,   /* the formula holds something else than ASCII text, tabs and newlines */
@@ -46,11 +47,12 @@ enum jistranu_answer {
     JISTRANU_BARE_DELIMITER = 8, /* lr encloses a delimiter and nothing else, as in lr(|) */
     JISTRANU_BARRED_SOLIDUS = 9, /* a denominator within bars holds an escaped slash, as in a/abs(b \/ c) */
     JISTRANU_SHORT_OUTPUT = 10,  /* the LaTeX is longer than the output buffer */
+    JISTRANU_NO_WORD = 16,       /* the place is not on a letter or digit of the formula; only jistranu_word_at answers it */
 };
 
 /* Converts a formula. `display`: whether a/b becomes \frac{a}{b}, as in a formula on a line of its own.
  *
- * Answers JISTRANU_DONE, and the LaTeX is the first *count bytes of `output` (no 0 byte is added); or another number of
+ * Answers JISTRANU_DONE, and the LaTeX is the first *count bytes of `output` (no 0 byte is added); or a number from 1 to 10 of
  * enum jistranu_answer, and *count is 0. No other byte of `output` is written. All of `work` is zero afterwards, whatever
  * stood there; after JISTRANU_NARROW_WORK it is untouched.
  *
@@ -78,6 +80,24 @@ uint64_t jistranu_typst_to_latex(
  * Two different plain formulas, converted with display on and no definitions, never give the same LaTeX.
  */
 bool jistranu_plain_check(const uint8_t *formula, size_t formula_len, size_t *atoms);
+
+/* What the word at a byte place of a formula stands for. A word is the longest run of letters and digits around the place. The
+ * table is that of a conversion.
+ *
+ * Answers JISTRANU_DONE, and *defined says whether the word is a defined name of two or more bytes. If so, its LaTeX is the
+ * *length bytes (possibly none) from *start of the table; if not, the word itself is the *length bytes from *start of the formula.
+ * Or answers JISTRANU_LONG_FORMULA, JISTRANU_FOREIGN_BYTE, JISTRANU_FAULTY_TABLE or JISTRANU_NO_WORD, the first that holds, and
+ * *defined is false, *start and *length are 0. Nothing is copied, and nothing else is written.
+ *
+ * The whole word is compared with the names, which is not the conversion's rule. With a definition of `gain`, `gain2` is one word
+ * and not defined, but a conversion rewrites the `gain` in it; in `x_gain` the word at 2 is `gain` and defined, but a conversion
+ * does not rewrite it.
+ */
+uint64_t jistranu_word_at(
+    const uint8_t *formula, size_t formula_len,
+    const uint8_t *table, size_t table_len,
+    size_t place,
+    bool *defined, size_t *start, size_t *length);
 
 #ifdef __cplusplus
 }

@@ -1,4 +1,5 @@
-//! Converts some correction formulas of a calibration bench, with definitions. Built and run by embed/run-rust.
+//! Converts some correction formulas of a calibration bench, with definitions, and shows what the words of one stand for. Built and
+//! run by embed/run-rust.
 
 use std::collections::HashMap;
 
@@ -16,12 +17,31 @@ fn main() {
         "lr(|)",
         "Uref/gain",
     ] {
-        match jistranu::typst_to_latex(formula, &definitions, true) {
-            Ok(latex) => println!("{formula}\n    {latex}"),
-            Err(refusal) => println!("{formula}\n    refused {}", refusal.number()),
+        convert(formula, &definitions);
+    }
+    let table = jistranu::table(&definitions);
+    for place in [0, 4, 5, 11] {
+        show_word("gain/2 + x_gain", &table, place);
+    }
+}
+
+fn convert(formula: &str, definitions: &HashMap<String, String>) {
+    match jistranu::typst_to_latex(formula, definitions, true) {
+        Ok(latex) => println!("{formula}\n    {latex}"),
+        Err(refusal) => println!("{formula}\n    refused {}", refusal.number()),
+    }
+    if let Some(atoms) = jistranu::plain_check(formula.as_bytes()) {
+        println!("    plain, {atoms} atoms");
+    }
+}
+
+fn show_word(formula: &str, table: &[u8], place: usize) {
+    println!("{formula} at {place}");
+    match jistranu::word_at(formula.as_bytes(), table, place) {
+        Ok(word) => {
+            let kind = if word.defined { "defined as" } else { "the word" };
+            println!("    {kind} {}", String::from_utf8_lossy(word.text));
         }
-        if let Some(atoms) = jistranu::plain_check(formula.as_bytes()) {
-            println!("    plain, {atoms} atoms");
-        }
+        Err(refusal) => println!("    refused {}", refusal.number()),
     }
 }

@@ -104,9 +104,47 @@ pub fn plain_check(formula: &[u8]) -> Option<usize> {
     plain.then_some(atoms)
 }
 
-/// The definitions as a table, narrow where that form has room for each and else wide. Where neither has, the table is cut off,
-/// which is a fault like any other: the library decides which refusal comes first.
-fn table(definitions: &HashMap<String, String>) -> Vec<u8> {
+/// What a word of a formula stands for.
+#[derive(Clone, Copy, Debug, PartialEq, Eq, Hash)]
+pub struct Word<'a> {
+    /// The LaTeX within the table where `defined`, possibly empty; else the word within the formula.
+    pub text: &'a [u8],
+    /// Whether the word is a defined name of two or more bytes.
+    pub defined: bool,
+}
+
+/// What the word at a byte place of a formula stands for, or why there is none. A word is the longest run of letters and digits
+/// around the place; [`table`] makes a table of definitions.
+///
+/// The whole word is compared with the names, which is not the conversion's rule. With a definition of `gain`, `gain2` is one word
+/// and not defined, but a conversion rewrites the `gain` in it; in `x_gain` the word at 2 is `gain` and defined, but a conversion
+/// does not rewrite it.
+pub fn word_at<'a>(formula: &'a [u8], table: &'a [u8], place: usize) -> Result<Word<'a>, Refusal> {
+    let (mut defined, mut start, mut length) = (false, 0, 0);
+    // SAFETY: as above.
+    let answer = unsafe {
+        raw::jistranu_word_at(
+            formula.as_ptr(),
+            formula.len(),
+            table.as_ptr(),
+            table.len(),
+            place,
+            &mut defined,
+            &mut start,
+            &mut length,
+        )
+    };
+    if let Some(refusal) = Refusal::of_number(answer) {
+        return Err(refusal);
+    }
+    let lent = if defined { table } else { formula };
+    Ok(Word { text: &lent[start..][..length], defined })
+}
+
+/// The definitions as a table, which [`convert`] and [`word_at`] take; hold it as long as a [`Word`], which may lie in it. It is
+/// narrow where that form has room for each definition, and else wide. Where neither has, it is cut off, which is a fault like any
+/// other: the library decides which refusal comes first.
+pub fn table(definitions: &HashMap<String, String>) -> Vec<u8> {
     [NARROW, WIDE].iter().find_map(|form| table_in(form, definitions)).unwrap_or_else(|| CUT_OFF.to_vec())
 }
 

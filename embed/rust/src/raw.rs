@@ -23,4 +23,19 @@ extern "C" {
     /// # Safety
     /// As above.
     pub fn jistranu_plain_check(formula: *const u8, formula_len: usize, atoms: *mut usize) -> bool;
+
+    /// 0, and `length` bytes from `start` of the table where `defined`, else of the formula; or the number of a refusal.
+    ///
+    /// # Safety
+    /// As above.
+    pub fn jistranu_word_at(
+        formula: *const u8,
+        formula_len: usize,
+        table: *const u8,
+        table_len: usize,
+        place: usize,
+        defined: *mut bool,
+        start: *mut usize,
+        length: *mut usize,
+    ) -> u64;
 }

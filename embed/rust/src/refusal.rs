@@ -1,10 +1,11 @@
-//! Why a formula is refused.
+//! Why a call is refused.
 
 use std::fmt;
 
-/// The ten refusals, with their numbers. Where several hold, `NarrowWork` comes first, then `LongFormula`, `ForeignByte` and
-/// `FaultyTable`, then the first of `Overgrown` to `BarredSolidus` that is met on the way, and `ShortOutput` last. `LostBlock` is
-/// kept, so that the others keep their numbers; no call is refused by it.
+/// The refusals, with their numbers. Where several hold, a conversion gives `NarrowWork` first, then `LongFormula`, `ForeignByte`
+/// and `FaultyTable`, then the first of `Overgrown` to `BarredSolidus` that is met on the way, and `ShortOutput` last. `LostBlock`
+/// is kept, so that the others keep their numbers; no call is refused by it. [`word_at`](crate::word_at) gives `LongFormula`,
+/// `ForeignByte` and `FaultyTable` in this order, and `NoWord` last, which no other call gives.
 #[derive(Clone, Copy, Debug, PartialEq, Eq, Hash)]
 pub enum Refusal {
     ForeignByte = 1,
@@ -17,10 +18,11 @@ pub enum Refusal {
     BareDelimiter = 8,
     BarredSolidus = 9,
     ShortOutput = 10,
+    NoWord = 16,
 }
 
-/// In the order of their numbers, each with its text for a user.
-const ALL: [(Refusal, &str); 10] = [
+/// Each with its text for a user.
+const ALL: [(Refusal, &str); 11] = [
     (Refusal::ForeignByte, "the formula holds something else than ASCII text, tabs and newlines"),
     (Refusal::LongFormula, "the formula has more than 4,096 bytes"),
     (
@@ -35,23 +37,29 @@ const ALL: [(Refusal, &str); 10] = [
     (Refusal::BareDelimiter, "lr encloses a delimiter and nothing else, as in lr(|)"),
     (Refusal::BarredSolidus, "a denominator within bars holds an escaped slash, as in a/abs(b \\/ c)"),
     (Refusal::ShortOutput, "the LaTeX is longer than the output buffer"),
+    (Refusal::NoWord, "the place is not on a letter or digit of the formula"),
 ];
+
+/// The row of a number from 1 to 10, or of 16.
+fn row(number: u64) -> Option<(Refusal, &'static str)> {
+    ALL.into_iter().find(|row| u64::from(row.0.number()) == number)
+}
 
 impl Refusal {
     pub fn number(self) -> u8 {
         self as u8
     }
 
-    /// The refusal of a number from 1 to 10.
+    /// The refusal of a number from 1 to 10, or of 16.
     pub fn of_number(number: u64) -> Option<Refusal> {
-        let at = usize::try_from(number).ok()?.checked_sub(1)?;
-        ALL.get(at).map(|row| row.0)
+        row(number).map(|row| row.0)
     }
 }
 
 impl fmt::Display for Refusal {
     fn fmt(&self, f: &mut fmt::Formatter<'_>) -> fmt::Result {
-        f.write_str(ALL[*self as usize - 1].1)
+        let (_, text) = row(self.number().into()).expect("each refusal has its row");
+        f.write_str(text)
     }
 }
 
@@ -62,12 +70,18 @@ mod tests {
     use super::*;
 
     #[test]
-    fn numbers_are_the_rows() {
-        for (i, (refusal, _)) in ALL.into_iter().enumerate() {
-            assert_eq!(usize::from(refusal.number()), i + 1);
-            assert_eq!(Refusal::of_number(i as u64 + 1), Some(refusal));
+    fn a_refusal_has_one_number_and_one_row() {
+        assert_eq!(ALL.map(|row| row.0.number()), [1, 2, 3, 4, 5, 6, 7, 8, 9, 10, 16]);
+        for (refusal, text) in ALL {
+            assert_eq!(Refusal::of_number(refusal.number().into()), Some(refusal));
+            assert_eq!(refusal.to_string(), text);
         }
-        assert_eq!(Refusal::of_number(0), None);
-        assert_eq!(Refusal::of_number(11), None);
+    }
+
+    #[test]
+    fn other_numbers_are_none() {
+        for number in [0, 11, 12, 13, 14, 15, 17, 256 + 16, u64::MAX] {
+            assert_eq!(Refusal::of_number(number), None);
+        }
     }
 }

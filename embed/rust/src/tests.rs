@@ -1,4 +1,4 @@
-//! What the wrapper adds to the library: the table made of a map, the refusals, the buffers of a thread.
+//! What the wrapper adds to the library: the table made of a map, the refusals, the buffers of a thread, the words as slices.
 
 use super::*;
 
@@ -165,4 +165,104 @@ fn plain_formulas_have_atoms() {
     assert_eq!(plain_check(&[b'('; FORMULA_BYTES]), None);
     let deep = "(".repeat(2_047) + "a" + &")".repeat(2_047);
     assert_eq!(plain_check(deep.as_bytes()), Some(1));
+}
+
+/// A name that is applied, one of one byte, and one without LaTeX.
+const WORDS: [(&str, &str); 3] = [("gain", "\\mathrm{G}"), ("g", "X"), ("zz", "")];
+
+#[test]
+fn a_defined_name_stands_for_its_latex() {
+    let table = table(&defined(&WORDS));
+    for (formula, place, latex) in [
+        ("gain/2", 0, "\\mathrm{G}"),
+        ("gain/2", 3, "\\mathrm{G}"),
+        ("x_gain", 2, "\\mathrm{G}"),
+        ("\"gain\"", 1, "\\mathrm{G}"),
+        ("\\gain", 1, "\\mathrm{G}"),
+        ("a zz", 2, ""),
+    ] {
+        assert_eq!(word_at(formula.as_bytes(), &table, place), Ok(Word { text: latex.as_bytes(), defined: true }));
+    }
+}
+
+#[test]
+fn any_other_word_stands_for_itself() {
+    let table = table(&defined(&WORDS));
+    let longest = "a".repeat(FORMULA_BYTES);
+    for (formula, place, word) in [
+        ("gain/2", 5, "2"),
+        ("x_gain", 0, "x"),
+        ("2gain", 1, "2gain"),
+        ("again", 1, "again"),
+        ("Gain", 1, "Gain"),
+        ("gain2", 0, "gain2"),
+        ("gain2", 4, "gain2"),
+        ("g", 0, "g"),
+        (&longest, 2_000, &longest),
+    ] {
+        assert_eq!(word_at(formula.as_bytes(), &table, place), Ok(Word { text: word.as_bytes(), defined: false }));
+    }
+}
+
+#[test]
+fn no_word_is_at_the_end_or_on_another_character() {
+    let table = table(&defined(&WORDS));
+    for (formula, place) in [("gain/2", 4), ("gain/2", 6), ("gain/2", usize::MAX), ("x_gain", 1), ("", 0)] {
+        assert_eq!(word_at(formula.as_bytes(), &table, place), Err(Refusal::NoWord));
+    }
+}
+
+#[test]
+fn a_word_is_refused_by_the_first_number_that_holds() {
+    let repeated = b"\x04\x01gX\x04\x01gX";
+    assert_eq!(word_at("é".repeat(2_049).as_bytes(), repeated, 0), Err(Refusal::LongFormula));
+    assert_eq!(word_at("é".as_bytes(), repeated, 0), Err(Refusal::ForeignByte));
+    assert_eq!(word_at(b"a", repeated, 0), Err(Refusal::FaultyTable));
+    assert_eq!(word_at(b"a", repeated, 1), Err(Refusal::FaultyTable));
+    assert_eq!(word_at(b"a", &repeated[..4], 1), Err(Refusal::NoWord));
+}
+
+#[test]
+fn a_refused_word_is_the_empty_beginning_of_the_formula() {
+    let long = [b'a'; FORMULA_BYTES + 1];
+    for (formula, table, number) in [(&long[..], &b""[..], 2), (b"\xe9", b"", 1), (b"a", b"\0\0", 3), (b"+", b"", 16)] {
+        let (mut defined, mut start, mut length) = (true, 7, 7);
+        // SAFETY: the pointers and lengths are those of slices.
+        let answer = unsafe {
+            raw::jistranu_word_at(
+                formula.as_ptr(),
+                formula.len(),
+                table.as_ptr(),
+                table.len(),
+                0,
+                &mut defined,
+                &mut start,
+                &mut length,
+            )
+        };
+        assert_eq!((answer, defined, start, length), (number, false, 0, 0));
+    }
+}
+
+#[test]
+fn both_forms_of_a_table_give_the_same_words() {
+    let rows = defined(&WORDS);
+    let (narrow, wide) = (table(&rows), table_in(&WIDE, &rows).unwrap());
+    for formula in ["", "gain/2 + x_gain", "g zz zz2", "é"] {
+        for place in 0..=formula.len() {
+            assert_eq!(word_at(formula.as_bytes(), &wide, place), word_at(formula.as_bytes(), &narrow, place));
+        }
+    }
+}
+
+#[test]
+fn a_word_lies_where_it_was_found() {
+    // Name and LaTeX are the same bytes, and so is the word.
+    let (narrow, wide) = (b"\x10\x04gaingain", b"\0\0\x80\x04gaingain");
+    assert!(std::ptr::eq(word_at(b"x_gain", narrow, 2).unwrap().text, &narrow[6..]));
+    assert!(std::ptr::eq(word_at(b"x_gain", wide, 2).unwrap().text, &wide[8..]));
+    let without_latex = b"\x08\0zz";
+    assert!(std::ptr::eq(word_at(b"zz", without_latex, 0).unwrap().text, &without_latex[4..]));
+    let formula = b"a + gain2";
+    assert!(std::ptr::eq(word_at(formula, narrow, 5).unwrap().text, &formula[4..]));
 }
