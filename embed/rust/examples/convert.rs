@@ -40,7 +40,7 @@ fn show_word(formula: &str, table: &[u8], place: usize) {
     match jistranu::word_at(formula.as_bytes(), table, place) {
         Ok(word) => {
             let kind = if word.defined { "defined as" } else { "the word" };
-            println!("    {kind} {}", String::from_utf8_lossy(word.text));
+            println!("    {kind} {}", word.as_str());
         }
         Err(refusal) => println!("    refused {}", refusal.number()),
     }

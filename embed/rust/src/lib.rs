@@ -113,6 +113,13 @@ pub struct Word<'a> {
     pub defined: bool,
 }
 
+impl<'a> Word<'a> {
+    /// The text as it is shown. A word is letters and digits, and a table's LaTeX is ASCII text.
+    pub fn as_str(&self) -> &'a str {
+        std::str::from_utf8(self.text).expect("a word and LaTeX are ASCII text")
+    }
+}
+
 /// What the word at a byte place of a formula stands for, or why there is none. A word is the longest run of letters and digits
 /// around the place; [`table`] makes a table of definitions.
 ///

@@ -181,7 +181,8 @@ fn a_defined_name_stands_for_its_latex() {
         ("\\gain", 1, "\\mathrm{G}"),
         ("a zz", 2, ""),
     ] {
-        assert_eq!(word_at(formula.as_bytes(), &table, place), Ok(Word { text: latex.as_bytes(), defined: true }));
+        let word = word_at(formula.as_bytes(), &table, place).unwrap();
+        assert_eq!((word.as_str(), word.defined), (latex, true));
     }
 }
 
