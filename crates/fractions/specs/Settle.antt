@@ -15,7 +15,7 @@ use lib.ListN.{length, drop}
 use Rattle.text_search.specs.Half.{halfWork}
 use Rattle.spec.specs.Symbols.{bytes, same, find}
 use Rattle.spec.specs.Result.{Result, passed, refused, mostSymbols}
-use Rattle.spec.specs.Fractions.{fractionsFrom, convertRegularFractions, settle, convertFractions}
+use Rattle.spec.specs.Fractions.{Done, nothingDone, fractionsFrom, convertRegularFractions, settle, convertFractions}
 use Rattle.spec.specs.Laws.Names.{same-refl, same-other-length}
 use Rattle.spec.specs.Laws.Symbols.{find-nowhere}
 use Rattle.text_symbols.specs.Parts.{part, length-part, whole-part}
@@ -225,15 +225,15 @@ module _ {w₀ w w′ : List ℕ} {from n at len k : ℕ} {r : Round} (g : Going
         }
 
 -- ---- a text with no slash
-reverse-whole : (p o s : List ℕ) → find (bytes "/") s ≡ none → fractionsFrom 0 p o s ≡ some (reverseAux o s)
+reverse-whole : (done : Done) (p o s : List ℕ) → find (bytes "/") s ≡ none → fractionsFrom 0 done p o s ≡ some (reverseAux o s)
 unfolding fractionsFrom
-reverse-whole p o [] e = refl
-reverse-whole p o (x ∷ s) e = let here = find-nowhere (bytes "/") x s e in rw (here .0, fractionsFrom) (reverse-whole (x ∷ p) (x ∷ o) s (here .1))
+reverse-whole done p o [] e = refl
+reverse-whole done p o (x ∷ s) e = let here = find-nowhere (bytes "/") x s e in rw (here .0, fractionsFrom) (reverse-whole done (x ∷ p) (x ∷ o) s (here .1))
 
 slashless : (s : List ℕ) → find (bytes "/") s ≡ none → convertFractions s ≡ passed s
 unfolding convertFractions convertRegularFractions afterRound
 slashless s e =
-    settle-more 63 s ∙ ap (λ r. moreOf 63 s (nextOf s r)) (reverse-whole [] [] s e)
+    settle-more 63 s ∙ ap (λ r. moreOf 63 s (nextOf s r)) (reverse-whole nothingDone [] [] s e)
     ∙ ap (λ b. moreOf 63 s (cond b unchanged (changed s))) (same-refl s)
 
 pub staged-slashless : {w : List ℕ} {from n : ℕ} → Ready w (Text from n) → find (bytes "/") (part from n w) ≡ none → Staged w w (Text from n) (Text from n) convertFractions

@@ -1,20 +1,23 @@
 -- What becomes of a slash, from the answers of the searches.
---     Slashed     what the code says of the slash at i is what the definition `slash` says, whatever has been written so far
+--     Slashed     what the code says of the slash at i is what the definition `slash` says, in a round that has done `done`, whatever has been written so far
 --     Ordered     the operands lie on either side of it
 -- Assumes nothing.
 use mathlib.Core.Path.{_≡_, sym, ap, _∙_, subst}
 use mathlib.Core.Bool.{Bool, true, false}
 use mathlib.Core.List.{List, reverse, reverseAux, reverse-reverse}
 use mathlib.Core.Option.{Option, none, some}
-use Prim.Native.Nat.{ℕ, _+_, _-_, _≤_, _<_}
+use Prim.Native.Nat.{ℕ, suc, _+_, _-_, _≤_, _<_}
 use Prim.Native.Char.{code}
 use native.Mathlib.Omega.{arith}
 use lib.ListN.{length, take, drop, length-take, length-drop}
 use Rattle.spec.specs.Symbols.{trimStart, until}
 use Rattle.spec.specs.Fractions.{
+  Done,
   Step,
   frac,
+  isLeft,
   copied,
+  leaving,
   stripOuterParens,
   isInsideSubscriptContext,
   findFractionPartBefore,
@@ -29,22 +32,29 @@ use Rattle.text_symbols.specs.Parts.{part, drop-take}
 use Rattle.text_symbols.specs.Trim.{spanned}
 use Rattle.text_symbols.specs.Places.{before, length-before, AheadTo, BackTo}
 use Rattle.fraction_operands.specs.Places.{until-ahead}
+use Rattle.fractions.specs.Left.{rewrittenTo}
 use Rattle.fractions.specs.declared.Operands.{Operands}
 use Rattle.fractions.specs.declared.Slash.{Slash}
-use Rattle.fractions.specs.declared.Slash.the-variants.{Converts, Stays, Barred}
+use Rattle.fractions.specs.declared.Slash.the-variants.{Converts, Stays, Left, Barred}
 
 -- the fraction of two operands of a text
 abbrev pub fraction : Operands → List ℕ → List ℕ
 fraction f s = frac (stripOuterParens (spanned (f .num) s)) (stripOuterParens (spanned (f .den) s))
 
 -- with o written so far
-abbrev pub fractionStep : List ℕ → ℕ → List ℕ → Operands → Step
-fractionStep s i o f = record { skip = f .den .end - (i + 1); written = reverseAux (fraction f s) (drop (i - f .num .start) o) }
+abbrev pub fractionStep : List ℕ → ℕ → Done → List ℕ → Operands → Step
+fractionStep s i done o f =
+    record {
+      skip = f .den .end - (i + 1);
+      written = reverseAux (fraction f s) (drop (i - f .num .start) o);
+      done = rewrittenTo done (f .den .end);
+    }
 
-abbrev pub decided : List ℕ → ℕ → List ℕ → Slash → Option Step
-decided s i o (Converts f) = some (fractionStep s i o f)
-decided s i o Stays = some (copied (code "/") o)
-decided s i o Barred = none
+abbrev pub decided : List ℕ → ℕ → Done → List ℕ → Slash → Option Step
+decided s i done o (Converts f) = some (fractionStep s i done o f)
+decided s i done o Stays = some (copied done (code "/") o)
+decided s i done o Left = some (copied (leaving done (before s i)) (code "/") o)
+decided s i done o Barred = none
 
 pub record Ordered (n i : ℕ) (f : Operands) : Type 0 where
   pub numerator : f .num .start ≤ f .num .end
@@ -56,10 +66,11 @@ pub record Ordered (n i : ℕ) (f : Operands) : Type 0 where
 abbrev pub SlashFits : ℕ → ℕ → Slash → Type 0
 SlashFits n i (Converts f) = Ordered n i f
 SlashFits n i Stays = Unit {0}
+SlashFits n i Left = Unit {0}
 SlashFits n i Barred = Unit {0}
 
-pub record Slashed (s : List ℕ) (i : ℕ) (r : Slash) : Type 0 where
-  pub decides : (o : List ℕ) → slash (before s i) o (drop (i + 1) s) ≡ decided s i o r
+pub record Slashed (s : List ℕ) (i : ℕ) (done : Done) (r : Slash) : Type 0 where
+  pub decides : (o : List ℕ) → slash done (before s i) o (drop (i + 1) s) ≡ decided s i done o r
   pub fits : SlashFits (length s) i r
 
 -- ---- the symbols between two places, seen from behind
@@ -69,52 +80,54 @@ until-behind s b e h w =
     let f : length (before s e) - length (before s b) ≡ length (take e s) - b = omega arith in
     ap (λ j. reverse (take j (before s e))) f ∙ ap reverse (sym (reverse-drop b (take e s))) ∙ reverse-reverse (drop b (take e s)) ∙ drop-take b e s
 
-abbrev made : List ℕ → ℕ → List ℕ → List ℕ → ℕ → Step
-made o k n d m = record { skip = k; written = reverseAux (frac (stripOuterParens n) (stripOuterParens d)) (drop m o) }
+abbrev made : List ℕ → List ℕ → ℕ → List ℕ → List ℕ → ℕ → ℕ → Step
+made left o k n d m e =
+    record { skip = k; written = reverseAux (frac (stripOuterParens n) (stripOuterParens d)) (drop m o); done = record { rewritten = e; left = left } }
 
-made-same : (o : List ℕ) {k k′ m m′ : ℕ} {n n′ d d′ : List ℕ} → k ≡ k′ → n ≡ n′ → d ≡ d′ → m ≡ m′ → made o k n d m ≡ made o k′ n′ d′ m′
-made-same o {k} {k′} {m} {m′} {n} {n′} {d} {d′} a b e f = ap (λ x. made o x n d m) a ∙ ap (λ x. made o k′ x d m) b ∙ ap (λ x. made o k′ n′ x m) e ∙ ap (made o k′ n′ d′) f
+made-same : (left o : List ℕ) {k k′ m m′ e e′ : ℕ} {n n′ d d′ : List ℕ} → k ≡ k′ → n ≡ n′ → d ≡ d′ → m ≡ m′ → e ≡ e′ → made left o k n d m e ≡ made left o k′ n′ d′ m′ e′
+made-same left o p q r t u = cc
 
 -- ---- the searches one after the other
-module _ (s : List ℕ) (i : ℕ) where
-  pub slash-inside : isInsideSubscriptContext 0 (before s i) ≡ true → Slashed s i Stays
+module _ (s : List ℕ) (i : ℕ) (done : Done) where
+  pub slash-inside : isInsideSubscriptContext 0 (before s i) ≡ true → Slashed s i done Stays
   unfolding slash
   slash-inside e = record { decides = λ o. rw (e, slash); fits = tt }
 
   module _ (outside : isInsideSubscriptContext 0 (before s i) ≡ false) {b : ℕ} (over : BackTo s i b (trimStart (before s i))) where
-    searched : (o : List ℕ) {q : Option (List ℕ)} → findFractionPartBefore (before s b) ≡ q → slash (before s i) o (drop (i + 1) s) ≡ withNumerator (before s i) o (drop (i + 1) s) q
+    searched : (o : List ℕ) {q : Option (List ℕ)} → findFractionPartBefore (before s b) ≡ q → slash done (before s i) o (drop (i + 1) s) ≡ withNumerator done (before s i) o (drop (i + 1) s) q
     unfolding slash
-    searched o e = rw (outside, slash) (ap (withNumerator (before s i) o (drop (i + 1) s)) (ap findFractionPartBefore (sym (over .left)) ∙ e))
+    searched o e = rw (outside, slash) (ap (withNumerator done (before s i) o (drop (i + 1) s)) (ap findFractionPartBefore (sym (over .left)) ∙ e))
 
-    pub slash-bare : findFractionPartBefore (before s b) ≡ none → Slashed s i Stays
+    pub slash-bare : findFractionPartBefore (before s b) ≡ none → Slashed s i done Stays
     slash-bare e = record { decides = λ o. searched o e; fits = tt }
 
-    module _
-        {a q : ℕ} (under : AheadTo s (i + 1) a (trimStart (drop (i + 1) s))) (start : q ≤ b)
-        (num : findFractionPartBefore (before s b) ≡ some (before s q))
-      where
+    module _ {q : ℕ} (start : q ≤ b) (num : findFractionPartBefore (before s b) ≡ some (before s q)) where
+      pub slash-left : isLeft done (before s q) ≡ true → Slashed s i done Left
+      slash-left e = record { decides = λ o. searched o num ∙ rw (e, withNumerator); fits = tt }
+
+      module _ (due : isLeft done (before s q) ≡ false) {a : ℕ} (under : AheadTo s (i + 1) a (trimStart (drop (i + 1) s))) where
         numerated : (o : List ℕ) {t : Bool} → barred (drop a s) ≡ t
-            → slash (before s i) o (drop (i + 1) s)
-            ≡ elim t [ true ↦ none | false ↦ some (withDenominator (before s i) o (drop (i + 1) s) (before s q) (findFractionPartAfter (trimStart (drop (i + 1) s)))) ]
+            → slash done (before s i) o (drop (i + 1) s)
+            ≡ elim t [ true ↦ none | false ↦ some (withDenominator done (before s i) o (drop (i + 1) s) (before s q) (findFractionPartAfter (trimStart (drop (i + 1) s)))) ]
         numerated o e =
             searched o num
-            ∙ ap (λ t. elim t [ true ↦ none | false ↦ some (withDenominator (before s i) o (drop (i + 1) s) (before s q) (findFractionPartAfter (trimStart (drop (i + 1) s)))) ])
-            (ap barred (sym (under .left)) ∙ e)
+            ∙ rw (due, withNumerator) (ap (λ t. elim t [ true ↦ none | false ↦ some (withDenominator done (before s i) o (drop (i + 1) s) (before s q) (findFractionPartAfter (trimStart (drop (i + 1) s)))) ])
+            (ap barred (sym (under .left)) ∙ e))
 
-        pub slash-barred : barred (drop a s) ≡ true → Slashed s i Barred
+        pub slash-barred : barred (drop a s) ≡ true → Slashed s i done Barred
         slash-barred e = record { decides = λ o. numerated o e; fits = tt }
 
         module _ (free : barred (drop a s) ≡ false) where
           divided : (o : List ℕ) {d : Option (List ℕ)} → findFractionPartAfter (drop a s) ≡ d
-              → slash (before s i) o (drop (i + 1) s) ≡ some (withDenominator (before s i) o (drop (i + 1) s) (before s q) d)
-          divided o e = numerated o free ∙ ap (λ d. some (withDenominator (before s i) o (drop (i + 1) s) (before s q) d)) (ap findFractionPartAfter (sym (under .left)) ∙ e)
+              → slash done (before s i) o (drop (i + 1) s) ≡ some (withDenominator done (before s i) o (drop (i + 1) s) (before s q) d)
+          divided o e = numerated o free ∙ ap (λ d. some (withDenominator done (before s i) o (drop (i + 1) s) (before s q) d)) (ap findFractionPartAfter (sym (under .left)) ∙ e)
 
-          pub slash-alone : findFractionPartAfter (drop a s) ≡ none → Slashed s i Stays
+          pub slash-alone : findFractionPartAfter (drop a s) ≡ none → Slashed s i done Stays
           slash-alone e = record { decides = λ o. divided o e; fits = tt }
 
           pub slash-converts :
               {r : ℕ} → i < length s → a ≤ r → r ≤ length s → findFractionPartAfter (drop a s) ≡ some (drop r s)
-              → Slashed s i (Converts (record { num = record { start = q; end = b }; den = record { start = a; end = r } }))
+              → Slashed s i done (Converts (record { num = record { start = q; end = b }; den = record { start = a; end = r } }))
           slash-converts {r} inside end within e =
               record {
                 decides = λ o. divided o e ∙ ap some (same o);
@@ -122,18 +135,20 @@ module _ (s : List ℕ) (i : ℕ) where
               }
             where
               same : (o : List ℕ)
-                  → made o (length (drop (i + 1) s) - length (drop r s)) (reverse (until (trimStart (before s i)) (before s q))) (until (trimStart (drop (i + 1) s)) (drop r s)) (length (before s i) - length (before s q))
-                  ≡ made o (r - (i + 1)) (part q (b - q) s) (part a (r - a) s) (i - q)
+                  → made (done .left) o (length (drop (i + 1) s) - length (drop r s)) (reverse (until (trimStart (before s i)) (before s q))) (until (trimStart (drop (i + 1) s)) (drop r s)) (length (before s i) - length (before s q)) (suc (length (before s i)) + (length (drop (i + 1) s) - length (drop r s)))
+                  ≡ made (done .left) o (r - (i + 1)) (part q (b - q) s) (part a (r - a) s) (i - q) r
               same o =
                   let f = under .from in let t = over .to in
                   let n = length-drop (i + 1) s in let m = length-drop r s in
                   let k = length-before s i (omega arith) in let l = length-before s q (omega arith) in
                   let skip : length (drop (i + 1) s) - length (drop r s) ≡ r - (i + 1) = omega arith in
                   let drops : length (before s i) - length (before s q) ≡ i - q = omega arith in
-                  made-same o skip
+                  let rewritten : suc (length (before s i)) + (length (drop (i + 1) s) - length (drop r s)) ≡ r = omega arith in
+                  made-same (done .left) o skip
                   (ap (λ x. reverse (until x (before s q))) (sym (over .left)) ∙ until-behind s q b start (omega arith))
                   (ap (λ x. until x (drop r s)) (sym (under .left)) ∙ until-ahead s a r end within)
                   drops
+                  rewritten
 
-pub slashed-ordered : {s : List ℕ} {i : ℕ} {r : Slash} {f : Operands} → Slashed s i r → r ≡ Converts f → Ordered (length s) i f
+pub slashed-ordered : {s : List ℕ} {i : ℕ} {done : Done} {r : Slash} {f : Operands} → Slashed s i done r → r ≡ Converts f → Ordered (length s) i f
 slashed-ordered {s} {i} d e = subst (SlashFits (length s) i) e (d .fits)

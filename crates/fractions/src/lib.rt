@@ -1,4 +1,5 @@
 // Fractions: one round of `convert_regular_fractions` over the lent buffer, and the rounds with numbers 5, 7 and 9.
+mod left;
 mod regular;
 mod settle;
 mod slashes;
@@ -15,10 +16,11 @@ pub struct Operands {
     pub den: Span,
 }
 
-// What becomes of a slash. Number 9 is `Barred`.
+// What becomes of a slash. `Left` is one for the next round, and number 9 is `Barred`.
 pub enum Slash {
     Converts(Operands),
     Stays,
+    Left,
     Barred,
 }
 

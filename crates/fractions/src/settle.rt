@@ -1,6 +1,7 @@
 // convert_fractions: rounds until nothing changes. The text changes sides with each round.
 use super::Outcome;
 use super::Round;
+use super::left::Marks;
 use super::regular::convert_regular_fractions;
 use text::CAP;
 use text::Progress;
@@ -15,12 +16,12 @@ ghost use Rattle.fractions.specs.Settle.{Stepped};
 const ROUNDS: usize = 64;
 
 // A round from one region to the other.
-fn next_round(work: &mut [u8], from: usize, n: usize) -> Round
+fn next_round(work: &mut [u8], from: usize, n: usize, marks: &mut Marks) -> Round
     requires { ⌜ Ready (now work) (Text from n) ⌝ }
     ensures { λ r. ⌜ Stepped (now (work .entry)) (now (work .exit)) from n r ⌝ }
 {
     let to = CAP - from;
-    let Outcome::Done(count) = convert_regular_fractions(work, from, n, to) else {
+    let Outcome::Done(count) = convert_regular_fractions(work, from, n, to, marks) else {
         return Round::Barred;
     };
     if count != n {
@@ -35,11 +36,11 @@ fn next_round(work: &mut [u8], from: usize, n: usize) -> Round
 }
 
 // The round after the last that may change the text: it only says whether it would.
-fn last_round(work: &mut [u8], from: usize, n: usize) -> Progress
+fn last_round(work: &mut [u8], from: usize, n: usize, marks: &mut Marks) -> Progress
     requires { ⌜ Ready (now work) (Text from n) ⌝ }
     ensures { λ r. ⌜ Staged (now (work .entry)) (now (work .exit)) (Text from n) r (settled 0) ⌝ }
 {
-    let round = next_round(work, from, n);
+    let round = next_round(work, from, n, marks);
     match round {
         Round::Unchanged => {
             return Progress::Text(from, n);
@@ -53,14 +54,16 @@ fn last_round(work: &mut [u8], from: usize, n: usize) -> Progress
     }
 }
 
+// The rounds. They share the marks, of which each clears as many as its text has symbols.
 fn settle(work: &mut [u8], from: usize, n: usize) -> Progress
     requires { ⌜ Ready (now work) (Text from n) ⌝ }
     ensures { λ r. ⌜ Staged (now (work .entry)) (now (work .exit)) (Text from n) r convertFractions ⌝ }
 {
+    let mut marks = [0; CAP];
     let mut at = from;
     let mut len = n;
     for k in 0..ROUNDS {
-        let round = next_round(work, at, len);
+        let round = next_round(work, at, len, &mut marks);
         match round {
             Round::Unchanged => {
                 return Progress::Text(at, len);
@@ -77,7 +80,7 @@ fn settle(work: &mut [u8], from: usize, n: usize) -> Progress
             }
         }
     }
-    last_round(work, at, len)
+    last_round(work, at, len, &mut marks)
 }
 
 // The stage. A text with no slash is left as it is.

@@ -1,27 +1,39 @@
 // What becomes of a slash: its operands, from the searches to its left and to its right. Nothing is written here.
 use super::Operands;
 use super::Slash;
+use super::left::Marks;
+use super::left::is_left;
 use text_search::Found;
 use text_symbols::Class;
 use text_symbols::Span;
+ghost use mathlib.Core.Bool.{false};
+ghost use mathlib.Core.Path.{_≡_};
 ghost use Prim.Native.Nat.{_<_};
 ghost use lib.ListN.{length};
+ghost use Rattle.spec.specs.Fractions.{Done};
 ghost use Rattle.fraction_operands.specs.Places.{Place};
+ghost use Rattle.fraction_numerators.specs.Script.{Scriptless};
+ghost use Rattle.fractions.specs.Left.{Kept};
 ghost use Rattle.fractions.specs.Slash.{Slashed};
 
-// The slash at `i`.
-pub fn slash_at(s: &[u8], i: usize) -> Slash
+// The slash at `i`, in a round that rewrote text last up to `rewritten` and left the slashes that are marked. `scripts` says
+// whether the text may have a script group.
+pub fn slash_at(s: &[u8], i: usize, scripts: bool, rewritten: usize, marks: &Marks) -> Slash
     requires { ⌜ Place (now s) i ⌝ }
     requires { ⌜ i < length (now s) ⌝ }
-    ensures { λ r. ⌜ Slashed (now (s .entry)) i r ⌝ }
+    requires { ⌜ (scripts ≡ false → Scriptless (now s)) ⌝ }
+    ensures { λ r. ⌜ ((done : Done) → Kept (now (marks .entry)) rewritten (length (now (s .entry))) done → Slashed (now (s .entry)) i done r) ⌝ }
 {
-    if fraction_numerators::is_inside_subscript_context(s, i) {
+    if fraction_numerators::is_inside_script(s, i, scripts) {
         return Slash::Stays;
     }
     let over = text_symbols::run_start(s, i, Class::Blank);
     let Found::At(start) = fraction_numerators::find_fraction_part_before(s, over) else {
         return Slash::Stays;
     };
+    if is_left(s, start, rewritten, marks) {
+        return Slash::Left;
+    }
     let under = text_symbols::run_end(s, i + 1, Class::Blank);
     if fraction_denominators::is_barred(s, under) {
         return Slash::Barred;

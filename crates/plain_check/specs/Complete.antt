@@ -1,6 +1,6 @@
 -- Completeness: a reader reads the text of a proper tree whole, whatever comes behind it that does not go on with the tree. Assumes nothing.
 use mathlib.Core.Path.{_≡_, refl, sym, ap, _∙_, subst₂}
-use mathlib.Core.Bool.{true, false, false≢true, _&&_}
+use mathlib.Core.Bool.{true, false, false≢true}
 use mathlib.Core.List.{List, [], _∷_, _++_, append-assoc}
 use Prim.Native.Nat.{ℕ, _<_}
 use Prim.Native.Char.{code}
@@ -10,7 +10,7 @@ use lib.ListN.{length}
 use lib.Seq.{drop-at, getD-at}
 use borrow.Author.Tests.{eqb-false, ne-eqb}
 use Rattle.spec.specs.Symbols.{bytes, alnum}
-use Rattle.spec.specs.Grammar.{Atom, Sum, product, Product, factor, beside, Factor, scripted, fraction, group, Operand, atom, enclosed, Script, bare, symbol, inner, scriptless, slashlessOperand, proper, properProduct, properFactor, properOperand, properScript, atomText, text, productText, factorText, operandText, scriptText}
+use Rattle.spec.specs.Grammar.{Atom, Sum, product, Product, factor, beside, Factor, scripted, fraction, group, Operand, atom, enclosed, Script, bare, symbol, inner, scriptless, proper, properProduct, properFactor, properOperand, properScript, atomText, text, productText, factorText, operandText, scriptText}
 use Rattle.spec.specs.Grammar
 use Rattle.spec.specs.Laws.Booleans.{and-left, and-right}
 use Rattle.plain_check.specs.declared.Part.{Part}
@@ -181,10 +181,9 @@ mutual
       (factor-scripted (front (atomText a) zs refl (complete-atom a zs (scripts-word l h xs e))) (scripts-end l h xs e) refl
       (scripts-more (front (scriptText (bytes "_") l) ys refl lower) upper))
   complete-factor (fraction n d) g xs e =
-      let operands = and-right (slashlessOperand n) (properOperand n && properOperand d) g in
       let ys = bytes "/" ++ (operandText d ++ xs) in
-      let first = complete-operand n (operand-inside n (and-left (properOperand n) (properOperand d) operands)) ys refl in
-      let second = complete-operand d (operand-inside d (and-right (properOperand n) (properOperand d) operands)) xs (e .word) in
+      let first = complete-operand n (operand-inside n (and-left (properOperand n) (properOperand d) g)) ys refl in
+      let second = complete-operand d (operand-inside d (and-right (properOperand n) (properOperand d) g)) xs (e .word) in
       renamed (spread (operandText n) (bytes "/") (operandText d) xs) (fraction-part n d)
       (rw (proper-unbarred n d g) at (factor-fraction (front (operandText n) ys refl first) refl refl second))
   complete-factor (group s) g xs e =

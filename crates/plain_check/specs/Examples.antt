@@ -22,6 +22,8 @@ abbrev examples : List Example
 examples =
     plain "a/(b/c)" 3
     ∷ plain "(a/b)" 2
+    ∷ plain "(a/b)/c" 3
+    ∷ plain "((a/b)/c + d)/(e/f)" 6
     ∷ plain "(a + 1)/b" 3
     ∷ plain "x_1^2 + (y - z)/2" 4
     ∷ plain "x_(a + b)^(c/d) - ((a))/b" 7
@@ -33,7 +35,7 @@ examples =
     ∷ other "1234567890"
     ∷ other "a/b/c"
     ∷ other "x^2/y"
-    ∷ other "(a/b)/c"
+    ∷ other "(a/b/c)/d"
     ∷ other "(alpha)/b"
     ∷ other "x^2_1"
     ∷ other "x_(y_1)"

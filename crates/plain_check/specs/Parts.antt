@@ -1,8 +1,8 @@
 -- How parts that were read make a larger one. Assumes nothing.
---     leaf, join, over, withScripts, wrap, asScript     of parts
+--     leaf, join, withScripts, wrap, asScript     of parts
 --     found, adjoined, behind, divided, scripted, closed, enclosedScript   the same where there may be nothing, with what the rules forbid
 --     JoinFits, FitBehind, ReadWithin                            what keeps counts small
-use mathlib.Core.Bool.{Bool, true, false, not, _&&_, _||_}
+use mathlib.Core.Bool.{Bool, true, false, _&&_, _||_}
 use mathlib.Core.List.{List}
 use Prim.Native.Nat.{ℕ, _+_, _≤_, _<_, _^_}
 use lib.Dec.{ltb}
@@ -48,7 +48,7 @@ andThen (Found p) f = f p
 -- ---- parts
 -- no more than its bytes: an atom, a script of one symbol, or a script that is not there
 abbrev pub leaf : ℕ → ℕ → Bool → Part
-leaf n atoms scriptless = record { used = n; atoms = atoms; lone = ltb 0 atoms; wrapped = false; slashless = true; scriptless = scriptless }
+leaf n atoms scriptless = record { used = n; atoms = atoms; lone = ltb 0 atoms; wrapped = false; scriptless = scriptless }
 
 abbrev pub join : Part → ℕ → Part → Part
 join p gap q =
@@ -57,21 +57,17 @@ join p gap q =
       atoms = p .atoms + q .atoms;
       lone = false;
       wrapped = false;
-      slashless = p .slashless && q .slashless;
       scriptless = p .scriptless && q .scriptless;
     }
 
-abbrev pub over : Part → Part → Part
-over p q = record { used = p .used + 1 + q .used; atoms = p .atoms + q .atoms; lone = false; wrapped = false; slashless = false; scriptless = p .scriptless && q .scriptless }
-
 abbrev pub withScripts : Part → Part → Part
-withScripts p q = record { used = p .used + q .used; atoms = p .atoms + q .atoms; lone = q .scriptless; wrapped = false; slashless = q .slashless; scriptless = q .scriptless }
+withScripts p q = record { used = p .used + q .used; atoms = p .atoms + q .atoms; lone = q .scriptless; wrapped = false; scriptless = q .scriptless }
 
 abbrev pub wrap : Part → Part
-wrap p = record { used = p .used + 2; atoms = p .atoms; lone = false; wrapped = p .lone; slashless = p .slashless; scriptless = p .scriptless }
+wrap p = record { used = p .used + 2; atoms = p .atoms; lone = false; wrapped = p .lone; scriptless = p .scriptless }
 
 abbrev pub asScript : Part → Part
-asScript p = record { used = p .used + 1; atoms = p .atoms; lone = false; wrapped = false; slashless = p .slashless; scriptless = false }
+asScript p = record { used = p .used + 1; atoms = p .atoms; lone = false; wrapped = false; scriptless = false }
 
 -- ---- what is forbidden, and where there is nothing
 abbrev pub found : Part → Read
@@ -84,12 +80,12 @@ abbrev pub behind : Read → ℕ → Read → Read
 behind Nothing gap r = r
 behind (Found p) gap r = adjoined p gap r
 
--- a numerator with a slash, or an operand that is an atom in parentheses
+-- one of the operands is an atom in parentheses
 abbrev pub indivisible : Part → Part → Bool
-indivisible p q = not (p .slashless) || p .wrapped || q .wrapped
+indivisible p q = p .wrapped || q .wrapped
 
 abbrev pub divided : Part → Read → Read
-divided p r = andThen r λ q. either (indivisible p q) (λ _. Nothing) (λ _. Found (over p q))
+divided p r = andThen r λ q. either (indivisible p q) (λ _. Nothing) (λ _. Found (join p 1 q))
 
 abbrev pub scripted : Part → Read → Read
 scripted p r = andThen r λ q. Found (withScripts p q)

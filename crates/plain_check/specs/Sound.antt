@@ -17,7 +17,7 @@ use Rattle.plain_check.specs.declared.Part.{Part}
 use Rattle.plain_check.specs.declared.Read.{Read}
 use Rattle.plain_check.specs.declared.Read.the-variants.{Found, Nothing}
 use Rattle.plain_check.specs.Tokens.{at, run, isAtom, atomLength, signNext, factorNext}
-use Rattle.plain_check.specs.Parts.{either, andThen, leaf, join, over, withScripts, wrap, asScript, indivisible, adjoined, divided, scripted as scriptedRead, closed, enclosedScript}
+use Rattle.plain_check.specs.Parts.{either, andThen, leaf, join, withScripts, wrap, asScript, indivisible, adjoined, divided, scripted as scriptedRead, closed, enclosedScript}
 use Rattle.plain_check.specs.Readers.{readSum, readProduct, readFactor, readOperand, readScripts, readScript}
 use Rattle.plain_check.specs.Rooms.{run-room}
 use Rattle.plain_check.specs.Atoms.{spelled, atom-begins-alnum}
@@ -144,11 +144,11 @@ module _ (xs : List ℕ) where
   fraction-sound : (p : Part) (r : Read) → OfOperand xs p → at (drop (p .used) xs) 0 ≡ code "/" → WhenFound (OfOperand (drop 1 (drop (p .used) xs))) r → WhenFound (OfFactor xs) (divided p r)
   unfolding text
   fraction-sound p Nothing a t b = tt
-  fraction-sound p (Found q) a t b = choose (OfFactor xs) (λ _. Nothing) (λ _. Found (over p q)) (indivisible p q) (λ _. tt) λ bar.
+  fraction-sound p (Found q) a t b = choose (OfFactor xs) (λ _. Nothing) (λ _. Found (join p 1 q)) (indivisible p q) (λ _. tt) λ bar.
       record {
         tree = fraction (a .tree) (b .tree);
         is-fine = unbarred-proper (a .tree) (b .tree) (ap₂ indivisible (a .counted) (b .counted) ∙ bar) (a .is-fine) (b .is-fine);
-        counted = fraction-part (a .tree) (b .tree) ∙ ap₂ over (a .counted) (b .counted);
+        counted = fraction-part (a .tree) (b .tree) ∙ ap₂ (λ u v. join u 1 v) (a .counted) (b .counted);
         split = stretches xs (operandText (a .tree)) (bytes "/") (operandText (b .tree)) (p .used) 1 (q .used) (a .split) (first (drop (p .used) xs) (code "/") (omega arith) t) (b .split);
       }
 

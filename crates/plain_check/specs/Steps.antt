@@ -15,7 +15,7 @@ use Rattle.plain_check.specs.declared.Part.{Part}
 use Rattle.plain_check.specs.declared.Read.{Read}
 use Rattle.plain_check.specs.declared.Read.the-variants.{Found, Nothing}
 use Rattle.plain_check.specs.Tokens.{at, signNext, factorNext, atomLength}
-use Rattle.plain_check.specs.Parts.{JoinFits, ReadWithin, bytesOf, either, andThen, over, indivisible, wrap, asScript, leaf, adjoined, divided, scripted, closed, enclosedScript}
+use Rattle.plain_check.specs.Parts.{JoinFits, ReadWithin, bytesOf, either, andThen, join, indivisible, wrap, asScript, leaf, adjoined, divided, scripted, closed, enclosedScript}
 use Rattle.plain_check.specs.Readers.{Answers, readSum, readProduct, readFactor, readOperand, readScripts, readScript}
 use Rattle.plain_check.specs.Rooms.{in-text, sign-room, factor-room, byte-room, word-room, atom-room}
 
@@ -41,7 +41,7 @@ module _ {xs zs : List ℕ} {p : Part} where
   divided-within Nothing s v = omega arith
   divided-within (Found q) s v = by (indivisible p q)
     where
-      by : (b : Bool) → ReadWithin (either b (λ _. Nothing) (λ _. Found (over p q))) xs
+      by : (b : Bool) → ReadWithin (either b (λ _. Nothing) (λ _. Found (join p 1 q))) xs
       by true = omega arith
       by false = omega arith
 

@@ -1,18 +1,18 @@
 -- What a reader counts of a tree, by the grammar's own functions, and how the part of a tree is made of its parts. Assumes nothing.
 use mathlib.Core.Path.{_≡_, refl}
-use mathlib.Core.Bool.{Bool, true, false, not, _&&_, _||_}
+use mathlib.Core.Bool.{Bool, true, false, not, _&&_}
 use mathlib.Core.List.{List, [], _∷_, _++_}
 use Prim.Native.Nat.{ℕ, _+_}
 use Prim.Native.Char.{code}
 use native.Mathlib.Omega.{arith}
 use lib.ListN.{length, length-append}
-use borrow.Author.Tests.{not-true, not-false}
+use borrow.Author.Tests.{not-true}
 use Rattle.spec.specs.Symbols.{bytes, alnum}
-use Rattle.spec.specs.Grammar.{Atom, Sum, product, Product, factor, beside, Factor, scripted, fraction, group, Operand, atom, enclosed, Script, bare, symbol, inner, slashless, slashlessProduct, slashlessFactor, slashlessOperand, slashlessScript, scriptless, scriptlessProduct, scriptlessFactor, scriptlessOperand, isBare, loneAtom, loneProduct, loneFactor, proper, properProduct, properFactor, properOperand, atomText, text, productText, factorText, operandText, scriptText, atoms, productAtoms, factorAtoms, operandAtoms, scriptAtoms}
+use Rattle.spec.specs.Grammar.{Atom, Sum, product, Product, factor, beside, Factor, scripted, fraction, group, Operand, atom, enclosed, Script, bare, symbol, inner, scriptless, scriptlessProduct, scriptlessFactor, scriptlessOperand, isBare, loneAtom, loneProduct, loneFactor, proper, properProduct, properFactor, properOperand, atomText, text, productText, factorText, operandText, scriptText, atoms, productAtoms, factorAtoms, operandAtoms, scriptAtoms}
 use Rattle.spec.specs.Grammar
 use Rattle.spec.specs.Laws.Booleans.{and-left, and-right, and-both, or-neither}
 use Rattle.plain_check.specs.declared.Part.{Part}
-use Rattle.plain_check.specs.Parts.{leaf, join, over, withScripts, wrap, asScript, indivisible}
+use Rattle.plain_check.specs.Parts.{leaf, join, withScripts, wrap, asScript, indivisible}
 
 -- ---- a lone atom in parentheses
 abbrev pub wrappedFactor : Factor → Bool
@@ -39,24 +39,24 @@ loneOperand (enclosed s) = false
 
 -- ---- the part of a tree
 abbrev pub sumPart : Sum → Part
-sumPart t = record { used = length (text t); atoms = atoms t; lone = loneAtom t; wrapped = wrappedAtom t; slashless = slashless t; scriptless = scriptless t }
+sumPart t = record { used = length (text t); atoms = atoms t; lone = loneAtom t; wrapped = wrappedAtom t; scriptless = scriptless t }
 
 abbrev pub productPart : Product → Part
 productPart t =
-    record { used = length (productText t); atoms = productAtoms t; lone = loneProduct t; wrapped = wrappedProduct t; slashless = slashlessProduct t; scriptless = scriptlessProduct t }
+    record { used = length (productText t); atoms = productAtoms t; lone = loneProduct t; wrapped = wrappedProduct t; scriptless = scriptlessProduct t }
 
 abbrev pub factorPart : Factor → Part
 factorPart t =
-    record { used = length (factorText t); atoms = factorAtoms t; lone = loneFactor t; wrapped = wrappedFactor t; slashless = slashlessFactor t; scriptless = scriptlessFactor t }
+    record { used = length (factorText t); atoms = factorAtoms t; lone = loneFactor t; wrapped = wrappedFactor t; scriptless = scriptlessFactor t }
 
 abbrev pub operandPart : Operand → Part
 operandPart t =
-    record { used = length (operandText t); atoms = operandAtoms t; lone = loneOperand t; wrapped = wrappedOperand t; slashless = slashlessOperand t; scriptless = scriptlessOperand t }
+    record { used = length (operandText t); atoms = operandAtoms t; lone = loneOperand t; wrapped = wrappedOperand t; scriptless = scriptlessOperand t }
 
 -- with the sign before it
 abbrev pub scriptPart : ℕ → Script → Part
 scriptPart sign t =
-    record { used = length (scriptText (sign ∷ []) t); atoms = scriptAtoms t; lone = false; wrapped = false; slashless = slashlessScript t; scriptless = isBare t }
+    record { used = length (scriptText (sign ∷ []) t); atoms = scriptAtoms t; lone = false; wrapped = false; scriptless = isBare t }
 
 abbrev pub scriptsPart : Script → Script → Part
 scriptsPart l h = join (scriptPart (code "_") l) 0 (scriptPart (code "^") h)
@@ -83,8 +83,8 @@ signed-proper plus p s = refl
 signed-proper minus p s = refl
 
 -- ---- parts of parts: only the bytes are to be counted
-sized : {m n a : ℕ} {l w s t : Bool} → m ≡ n
-    → _≡_ {A = Part} (record { used = m; atoms = a; lone = l; wrapped = w; slashless = s; scriptless = t }) (record { used = n; atoms = a; lone = l; wrapped = w; slashless = s; scriptless = t })
+sized : {m n a : ℕ} {l w s : Bool} → m ≡ n
+    → _≡_ {A = Part} (record { used = m; atoms = a; lone = l; wrapped = w; scriptless = s }) (record { used = n; atoms = a; lone = l; wrapped = w; scriptless = s })
 sized e = rw e
 
 pub product-part : (p : Product) → sumPart (product p) ≡ productPart p
@@ -116,7 +116,7 @@ pub group-part : (s : Sum) → factorPart (group s) ≡ operandPart (enclosed s)
 unfolding text atoms
 group-part s = refl
 
-pub fraction-part : (n d : Operand) → factorPart (fraction n d) ≡ over (operandPart n) (operandPart d)
+pub fraction-part : (n d : Operand) → factorPart (fraction n d) ≡ join (operandPart n) 1 (operandPart d)
 unfolding text atoms
 fraction-part n d = sized (simp length-append (omega arith))
 
@@ -156,16 +156,9 @@ operand-proper (enclosed s) w e = rw (w, e)
 -- ---- and a fraction is if neither operand is barred
 module _ (n d : Operand) where
   pub proper-unbarred : properFactor (fraction n d) ≡ true → indivisible (operandPart n) (operandPart d) ≡ false
-  proper-unbarred e =
-      let operands = and-right (slashlessOperand n) (properOperand n && properOperand d) e in
-      rw (
-        and-left (slashlessOperand n) (properOperand n && properOperand d) e,
-        operand-unwrapped n (and-left (properOperand n) (properOperand d) operands),
-        operand-unwrapped d (and-right (properOperand n) (properOperand d) operands),
-      )
+  proper-unbarred e = rw (operand-unwrapped n (and-left (properOperand n) (properOperand d) e), operand-unwrapped d (and-right (properOperand n) (properOperand d) e))
 
   pub unbarred-proper : indivisible (operandPart n) (operandPart d) ≡ false → properInside n ≡ true → properInside d ≡ true → properFactor (fraction n d) ≡ true
   unbarred-proper e i j =
-      let both = or-neither (not (slashlessOperand n) || wrappedOperand n) (wrappedOperand d) e in
-      let first = or-neither (not (slashlessOperand n)) (wrappedOperand n) (both .0) in
-      and-both (not-false (slashlessOperand n) (first .0)) (and-both (operand-proper n (first .1) i) (operand-proper d (both .1) j))
+      let neither = or-neither (wrappedOperand n) (wrappedOperand d) e in
+      and-both (operand-proper n (neither .0) i) (operand-proper d (neither .1) j)

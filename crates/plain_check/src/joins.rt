@@ -19,7 +19,6 @@ pub fn adjoined(p: Part, gap: usize, r: Read) -> Read
         atoms: p.atoms + q.atoms,
         lone: false,
         wrapped: false,
-        slashless: p.slashless & q.slashless,
         scriptless: p.scriptless & q.scriptless,
     })
 }
@@ -35,7 +34,7 @@ pub fn behind(front: Read, gap: usize, r: Read) -> Read
     adjoined(p, gap, r)
 }
 
-// A numerator, the slash and the denominator. The numerator holds no slash, and neither is an atom in parentheses.
+// A numerator, the slash and the denominator. Neither operand is an atom in parentheses.
 pub fn divided(p: Part, r: Read) -> Read
     requires { ⌜ JoinFits p 1 r ⌝ }
     ensures { λ a. ⌜ a ≡ divided p r ⌝ }
@@ -43,17 +42,10 @@ pub fn divided(p: Part, r: Read) -> Read
     let Read::Found(q) = r else {
         return Read::Nothing;
     };
-    if !p.slashless | p.wrapped | q.wrapped {
+    if p.wrapped | q.wrapped {
         return Read::Nothing;
     }
-    Read::Found(Part {
-        used: p.used + 1 + q.used,
-        atoms: p.atoms + q.atoms,
-        lone: false,
-        wrapped: false,
-        slashless: false,
-        scriptless: p.scriptless & q.scriptless,
-    })
+    adjoined(p, 1, r)
 }
 
 // An atom of n bytes and its scripts.
@@ -69,7 +61,6 @@ pub fn scripted(n: usize, r: Read) -> Read
         atoms: 1 + q.atoms,
         lone: q.scriptless,
         wrapped: false,
-        slashless: q.slashless,
         scriptless: q.scriptless,
     })
 }
@@ -91,7 +82,6 @@ pub fn closed(s: &[u8], r: Read) -> Read
         atoms: p.atoms,
         lone: false,
         wrapped: p.lone,
-        slashless: p.slashless,
         scriptless: p.scriptless,
     })
 }
@@ -112,7 +102,6 @@ pub fn enclosed_script(r: Read) -> Read
         atoms: p.atoms,
         lone: false,
         wrapped: false,
-        slashless: p.slashless,
         scriptless: false,
     })
 }
@@ -126,7 +115,6 @@ pub fn leaf(n: usize, atoms: usize, scriptless: bool) -> Read
         atoms,
         lone: 0 < atoms,
         wrapped: false,
-        slashless: true,
         scriptless,
     })
 }

@@ -14,7 +14,6 @@ struct Part {
     atoms: usize,
     lone: bool,
     wrapped: bool,
-    slashless: bool,
     scriptless: bool,
 }
 

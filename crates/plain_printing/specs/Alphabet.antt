@@ -2,7 +2,7 @@
 use mathlib.Core.Path.{_≡_, refl, sym, ap, _∙_}
 use mathlib.Core.Bool.{Bool, true, false, not, _&&_, _||_, true≢false, cond, and-false}
 use mathlib.Core.List.{List, [], _∷_, _++_, reverseAux}
-use Prim.Native.Nat.{ℕ, zero, suc, _≤_}
+use Prim.Native.Nat.{ℕ, pred, _≤_}
 use Prim.Native.Char.{code}
 use lib.Dec.{eqb, ltb, leb}
 use lib.ListN.{length}
@@ -11,7 +11,7 @@ use Rattle.spec.specs.Grammar.{Atom, variable, greek, number, greekNames, greek
 use Rattle.spec.specs.Laws.Booleans.{and-left, and-right, and-both, or-split, untrue}
 use Rattle.spec.specs.Laws.Names.{row-rule}
 use Rattle.spec.specs.Laws.Symbols.{find-past}
-use Rattle.plain_printing.specs.Tree.{Tree, TreeScript, Style, Join, beside, plus, minus, atom, fraction, group, row, bare, symbol, inner, atomWriting, joinText, operand, lone, slashless, parens, scriptBrackets, unsized, write, writeScript}
+use Rattle.plain_printing.specs.Tree.{Tree, TreeScript, Style, Join, beside, plus, minus, atom, fraction, group, row, bare, symbol, inner, atomWriting, joinText, operand, lone, slashless, parens, scriptBrackets, unstacked, unsized, write, writeScript, either-way}
 use Rattle.plain_printing.specs.Classes.{apart, all-weaken, all-append, anyOf, any-all}
 use Rattle.plain_printing.specs.Rule.{endsFactor, last}
 use Rattle.plain_printing.specs.Unlatex.{letter-alnum, digit-alnum, greek-alnum}
@@ -71,8 +71,9 @@ mutual
   tree-plainly : (s : Style) (n : ℕ) (t : Tree) → Plainly (write s n t)
   tree-plainly s n (atom a l h) =
       atom-plainly (s .greeks) a then script-plainly s n (bytes "_") refl (s .low) l then script-plainly s n (bytes "^") refl (s .high) h
-  tree-plainly s zero (fraction t u) = operand-plainly (lone t) (tree-plainly s 0 t) then these (bytes "/") refl then operand-plainly (lone u) (tree-plainly s 0 u)
-  tree-plainly s (suc n) (fraction t u) = these (bytes "\\frac{") refl then tree-plainly s 0 t then these (bytes "}{") refl then tree-plainly s n u then these (bytes "}") refl
+  tree-plainly s n (fraction t u) =
+      either-way Plainly (unstacked n t) (operand-plainly (lone t) (tree-plainly s n t) then these (bytes "/") refl then operand-plainly (lone u) (tree-plainly s n u))
+      (these (bytes "\\frac{") refl then tree-plainly s (pred n) t then these (bytes "}{") refl then tree-plainly s (pred n) u then these (bytes "}") refl)
   tree-plainly s n (group t) = parens-plainly (s .sized && not (slashless t)) (tree-plainly s n t)
   tree-plainly s n (row t j u) = tree-plainly s n t then join-plainly j then tree-plainly s n u
 
@@ -129,8 +130,8 @@ last-append : (u s : List ℕ) (b : ℕ) → last b (u ++ s) ≡ last (last b u)
 last-append [] s b = refl
 last-append (x ∷ u) s b = last-append u s x
 
-record Ends (s : List ℕ) : Type 0 where
-  ends-closed : (b : ℕ) → endsFactor (last b s) ≡ true
+pub record Ends (s : List ℕ) : Type 0 where
+  pub ends-closed : (b : ℕ) → endsFactor (last b s) ≡ true
 
 record Keeps (s : List ℕ) : Type 0 where
   keeps-closed : (b : ℕ) → endsFactor b ≡ true → endsFactor (last b s) ≡ true
@@ -185,11 +186,12 @@ script-keeps s n m b bare = record { keeps-closed = λ b h. h }
 script-keeps s n m b (symbol c e) = ends-keeps (behind m (words-ends (c ∷ []) (rw e) refl))
 script-keeps s n m b (inner t) = ends-keeps (behind m (group-ends b (write (unsized s) n t)))
 
-tree-ends : (s : Style) (n : ℕ) (t : Tree) → Ends (write s n t)
+pub tree-ends : (s : Style) (n : ℕ) (t : Tree) → Ends (write s n t)
 unfolding write
 tree-ends s n (atom a l h) = kept (atom-ends (s .greeks) a) (keeps-both (script-keeps s n (bytes "_") (s .low) l) (script-keeps s n (bytes "^") (s .high) h))
-tree-ends s zero (fraction t u) = behind (operand (lone t) (write s 0 t)) (behind (bytes "/") (operand-ends (lone u) (tree-ends s 0 u)))
-tree-ends s (suc n) (fraction t u) = behind (bytes "\\frac{") (behind (write s 0 t) (behind (bytes "}{") (behind (write s n u) (ends-one (code "}") refl))))
+tree-ends s n (fraction t u) =
+    either-way Ends (unstacked n t) (behind (operand (lone t) (write s n t)) (behind (bytes "/") (operand-ends (lone u) (tree-ends s n u))))
+    (behind (bytes "\\frac{") (behind (write s (pred n) t) (behind (bytes "}{") (behind (write s (pred n) u) (ends-one (code "}") refl)))))
 tree-ends s n (group t) = parens-ends (s .sized && not (slashless t)) (write s n t)
 tree-ends s n (row t j u) = behind (write s n t) (behind (joinText j) (tree-ends s n u))
 

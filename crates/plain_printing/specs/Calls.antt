@@ -66,7 +66,7 @@ latexOf p = Grammar.latex (p .sum)
 -- what numbers 4, 7, 5 and 10 ask of a call on a plain formula: where it holds, no number refuses the call
 pub record WithinLimits {formula : List ℕ} (p : Plain formula) (work output : List ℕ) : Type 0 where
   pub work-wide : leastWork ≤ length work
-  pub shallow : Grammar.depth (p .sum) ≤ mostRounds
+  pub shallow : Grammar.height (p .sum) ≤ mostRounds
   pub latex-short : length (latexOf p) ≤ mostSymbols
   pub output-long : length (latexOf p) ≤ length output
 

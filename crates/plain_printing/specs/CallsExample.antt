@@ -9,7 +9,7 @@ use lib.ListN.{length, drop, replicate}
 use Rattle.spec.specs.Symbols.{bytes}
 use Rattle.spec.specs.Result.{passed}
 use Rattle.spec.specs.Pipeline.{leastWork, Call}
-use Rattle.spec.specs.Grammar.{variable, Sum, product, factor, fraction, atom, enclosed, Plain, text, latex, depth}
+use Rattle.spec.specs.Grammar.{variable, Sum, product, factor, fraction, atom, enclosed, Plain, text, latex, height}
 use Rattle.plain_printing.specs.Calls.{NoRecords, WithinLimits, accepting-call}
 
 abbrev nested : Sum
@@ -23,9 +23,9 @@ nested-latex : latex nested ≡ bytes "\\frac{a}{\\frac{b}{c}}"
 unfolding latex
 nested-latex = refl
 
-nested-depth : depth nested ≡ 2
-unfolding depth
-nested-depth = refl
+nested-height : height nested ≡ 2
+unfolding height
+nested-height = refl
 
 nested-plain : Plain (bytes "a/(b/c)")
 nested-plain = record { sum = nested; is-proper = refl; reads = nested-text; short = omega arith }
@@ -33,7 +33,7 @@ nested-plain = record { sum = nested; is-proper = refl; reads = nested-text; sho
 module _ (table : List ℕ) (empty : NoRecords table) (work output : List ℕ) (wide : leastWork ≤ length work) (long : 21 ≤ length output) where
   within : WithinLimits nested-plain work output
   unfolding nested-plain
-  within = record { work-wide = wide; shallow = rw nested-depth (omega arith); latex-short = rw nested-latex (omega arith); output-long = rw nested-latex long }
+  within = record { work-wide = wide; shallow = rw nested-height (omega arith); latex-short = rw nested-latex (omega arith); output-long = rw nested-latex long }
 
   pub nested-call : Call (bytes "a/(b/c)") table true work output (passed 21) (replicate (length work) 0) (bytes "\\frac{a}{\\frac{b}{c}}" ++ drop 21 output)
   unfolding nested-plain latex

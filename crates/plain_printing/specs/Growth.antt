@@ -2,7 +2,7 @@
 use mathlib.Core.Path.{_≡_}
 use mathlib.Core.Bool.{Bool, true, false, not, cond, _&&_}
 use mathlib.Core.List.{List, [], _++_}
-use Prim.Native.Nat.{ℕ, zero, suc, _+_, _≤_}
+use Prim.Native.Nat.{ℕ, zero, suc, pred, _+_, _≤_}
 use native.Mathlib.Nat.{le-refl}
 use native.Mathlib.Omega.{arith}
 use lib.Dec.{ltb}
@@ -10,8 +10,7 @@ use lib.ListN.{length, length-append}
 use Rattle.spec.specs.Symbols.{bytes}
 use Rattle.spec.specs.Fractions.{frac}
 use Rattle.spec.specs.Grammar.{Atom, variable, greek, number, greekName}
-use Rattle.plain_printing.specs.Tree.{Tree, TreeScript, Style, atom, fraction, group, row, bare, symbol, inner, atomWriting, joinText, operand, slashed, lone, parens, scriptBrackets, slashless, PlainTree, PlainScript, depth, depthScript, write, writeScript, treeLatex}
-use Rattle.plain_printing.specs.Unlatex.{slashless-flat}
+use Rattle.plain_printing.specs.Tree.{Tree, TreeScript, Style, atom, fraction, group, row, bare, symbol, inner, atomWriting, joinText, operand, slashed, lone, parens, scriptBrackets, slashless, height, heightScript, unstacked, write, writeScript, either-way, stacked, treeLatex}
 
 append-grows : (s s′ t t′ : List ℕ) → length s ≤ length s′ → length t ≤ length t′ → length (s ++ t) ≤ length (s′ ++ t′)
 append-grows s s′ t t′ p q = omega (arith, length-append s t, length-append s′ t′)
@@ -62,28 +61,29 @@ module _ (k : ℕ) (b c : Bool) (b′ c′ : Bool) where
   mutual
     unfolding write writeScript
 
-    tree-grows : (z : Bool) (n m : ℕ) (t : Tree) → PlainTree t → depth t ≤ m → length (write early n t) ≤ length (write (late z) m t)
-    tree-grows z n m (atom a l h) p d =
+    tree-grows : (z : Bool) (n m : ℕ) (t : Tree) → height t ≤ m → length (write early n t) ≤ length (write (late z) m t)
+    tree-grows z n m (atom a l h) d =
         append-grows (atomWriting k a) (atomWriting 30 a) _ _ (atom-grows k a)
-        (append-grows (writeScript early n (bytes "_") b l) (writeScript (late z) m (bytes "_") b′ l) _ _ (script-grows z n m (bytes "_") b b′ l (p .0) (omega arith))
-        (script-grows z n m (bytes "^") c c′ h (p .1) (omega arith)))
-    tree-grows z n zero (fraction t u) p d = absurd (omega arith)
-    tree-grows z zero (suc m) (fraction t u) p d =
-        slash-grows (lone t) (lone u) (write early 0 t) (write (late z) 0 t) (write early 0 u) (write (late z) m u) (tree-grows z 0 0 t (p .1) (slashless-flat t (p .0)))
-        (tree-grows z 0 m u (p .2) (omega arith))
-    tree-grows z (suc n) (suc m) (fraction t u) p d =
-        frac-grows (write early 0 t) (write (late z) 0 t) (write early n u) (write (late z) m u) (tree-grows z 0 0 t (p .1) (slashless-flat t (p .0))) (tree-grows z n m u (p .2) (omega arith))
-    tree-grows z n m (group t) p d = parens-grow (z && not (slashless t)) (write early n t) (write (late z) m t) (tree-grows z n m t p d)
-    tree-grows z n m (row t j u) p d =
-        append-grows (write early n t) (write (late z) m t) _ _ (tree-grows z n m t (p .1) (omega arith))
-        (append-grows (joinText j) (joinText j) (write early n u) (write (late z) m u) (le-refl _) (tree-grows z n m u (p .2) (omega arith)))
+        (append-grows (writeScript early n (bytes "_") b l) (writeScript (late z) m (bytes "_") b′ l) _ _ (script-grows z n m (bytes "_") b b′ l (omega arith))
+        (script-grows z n m (bytes "^") c c′ h (omega arith)))
+    tree-grows z n zero (fraction t u) d = absurd (omega arith)
+    tree-grows z n (suc m) (fraction t u) d =
+        rw (stacked (late z) m t u (omega arith))
+        (either-way (λ (s : List ℕ). length s ≤ length (frac (write (late z) m t) (write (late z) m u))) (unstacked n t)
+        (slash-grows (lone t) (lone u) (write early n t) (write (late z) m t) (write early n u) (write (late z) m u) (tree-grows z n m t (omega arith)) (tree-grows z n m u (omega arith)))
+        (frac-grows (write early (pred n) t) (write (late z) m t) (write early (pred n) u) (write (late z) m u) (tree-grows z (pred n) m t (omega arith))
+        (tree-grows z (pred n) m u (omega arith))))
+    tree-grows z n m (group t) d = parens-grow (z && not (slashless t)) (write early n t) (write (late z) m t) (tree-grows z n m t d)
+    tree-grows z n m (row t j u) d =
+        append-grows (write early n t) (write (late z) m t) _ _ (tree-grows z n m t (omega arith))
+        (append-grows (joinText j) (joinText j) (write early n u) (write (late z) m u) (le-refl _) (tree-grows z n m u (omega arith)))
 
-    script-grows : (z : Bool) (n m : ℕ) (sign : List ℕ) (x y : Bool) (s : TreeScript) → PlainScript s → depthScript s ≤ m
+    script-grows : (z : Bool) (n m : ℕ) (sign : List ℕ) (x y : Bool) (s : TreeScript) → heightScript s ≤ m
         → length (writeScript early n sign x s) ≤ length (writeScript (late z) m sign y s)
-    script-grows z n m sign x y bare p d = le-refl _
-    script-grows z n m sign x y (symbol s e) p d = le-refl _
-    script-grows z n m sign x y (inner t) p d =
-        append-grows sign sign _ _ (le-refl _) (group-grows x y (write early n t) (write (late false) m t) (tree-grows false n m t (p .1) d))
+    script-grows z n m sign x y bare d = le-refl _
+    script-grows z n m sign x y (symbol s e) d = le-refl _
+    script-grows z n m sign x y (inner t) d =
+        append-grows sign sign _ _ (le-refl _) (group-grows x y (write early n t) (write (late false) m t) (tree-grows false n m t d))
 
-pub latex-longest : (k : ℕ) (b c : Bool) (n : ℕ) (t : Tree) → PlainTree t → length (write (record { greeks = k; low = b; high = c; sized = false }) n t) ≤ length (treeLatex t)
-latex-longest k b c n t p = tree-grows k b c true true true n (depth t) t p (le-refl (depth t))
+pub latex-longest : (k : ℕ) (b c : Bool) (n : ℕ) (t : Tree) → length (write (record { greeks = k; low = b; high = c; sized = false }) n t) ≤ length (treeLatex t)
+latex-longest k b c n t = tree-grows k b c true true true n (height t) t (le-refl (height t))

@@ -4,6 +4,8 @@ pub mod Classes
 pub mod Nest
 pub mod Written
 pub mod Operand
+pub mod Stacked
+pub mod Turns
 pub mod Round
 pub mod Settle
 pub mod Unlatex

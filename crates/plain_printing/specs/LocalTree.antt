@@ -2,7 +2,7 @@
 use mathlib.Core.Path.{_≡_, refl, ap, _∙_}
 use mathlib.Core.Bool.{Bool, true, false, not, _&&_, cond, false≢true}
 use mathlib.Core.List.{List, [], _∷_, _++_, append-nil, append-assoc}
-use Prim.Native.Nat.{ℕ, zero, suc}
+use Prim.Native.Nat.{ℕ, pred}
 use Prim.Native.Char.{code}
 use native.Mathlib.Omega.{arith}
 use lib.Dec.{leb, ltb}
@@ -14,7 +14,7 @@ use Rattle.spec.specs.Grammar.{Atom, variable, greek, number, greekNames, greek
 use Rattle.spec.specs.Laws.Booleans.{and-left, and-right, and-both, or-right, untrue, or-split}
 use Rattle.spec.specs.Laws.Names.{allRows, row-rule}
 use Rattle.spec.specs.Laws.Symbols.{digit-range}
-use Rattle.plain_printing.specs.Tree.{Tree, TreeScript, Style, Join, beside, plus, minus, atom, fraction, group, row, bare, symbol, inner, atomWriting, joinText, operand, slashed, lone, typstStyle, markedStyle, unsized, write, writeScript, scriptBrackets, text}
+use Rattle.plain_printing.specs.Tree.{Tree, TreeScript, Style, Join, beside, plus, minus, atom, fraction, group, row, bare, symbol, inner, atomWriting, joinText, operand, slashed, lone, typstStyle, markedStyle, unstacked, unsized, write, writeScript, scriptBrackets, either-way, text}
 use Rattle.plain_printing.specs.Classes.{apart}
 use Rattle.plain_printing.specs.Local.{chain}
 use Rattle.plain_printing.specs.Rule.{rule, Before, nothing, space, slash, paren, brace, endsFactor, last, Marker, low, high}
@@ -193,8 +193,9 @@ module _ (marked : Bool) where
 
       pub tree-passes : (n : ℕ) (t : Tree) → FactorKeepsRule marked (write (unsized s) n t)
       tree-passes n (atom a l h) = scripted-passes (atoms a) (script-trails n low (s .low) l) (script-trails n high (s .high) h)
-      tree-passes zero (fraction t u) = slashed-passes (operand-passes (lone t) (tree-passes 0 t)) (operand-passes (lone u) (tree-passes 0 u))
-      tree-passes (suc n) (fraction t u) = frac-passes (tree-passes 0 t) (tree-passes n u)
+      tree-passes n (fraction t u) =
+          either-way (FactorKeepsRule marked) (unstacked n t) (slashed-passes (operand-passes (lone t) (tree-passes n t)) (operand-passes (lone u) (tree-passes n u)))
+          (frac-passes (tree-passes (pred n) t) (tree-passes (pred n) u))
       tree-passes n (group t) = paren-passes (tree-passes n t)
       tree-passes n (row t j u) = row-passes j (tree-passes n t) (tree-passes n u)
 

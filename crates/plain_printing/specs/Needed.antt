@@ -1,6 +1,8 @@
--- What the grammar asks besides its rules is needed: for each of the three demands a sum that lacks only this one, and of which the theorem is false.
---     slash-misprints, script-misprints     a slash in a numerator, a script in a script: what is printed is not the sum's LaTeX
---     parentheses-alike                     a lone atom in operand parentheses: two texts, one LaTeX
+-- What the grammar asks is needed: for each of its demands besides the rules a sum that lacks only this one, and of which the theorem is false; and why a
+-- bare chain is left out.
+--     script-misprints      a script in a script: what is printed is not the sum's LaTeX
+--     parentheses-alike     a lone atom in operand parentheses: two texts, one LaTeX
+--     chain-alike           a bare chain prints as a plain formula does
 use mathlib.Core.Path.{_≡_, refl, sym, ap, _∙_}
 use mathlib.Core.Bool.{Bool, true, false, true≢false}
 use mathlib.Core.List.{List, []}
@@ -23,10 +25,6 @@ b = variable (code "b") refl
 abbrev c : Atom
 c = variable (code "c") refl
 
--- `(a/b)/c`
-abbrev slashed : Sum
-slashed = alone (fraction (enclosed (alone (fraction (atom a) (atom b)))) (atom c))
-
 -- `a_(b_(c))`
 abbrev twice : Sum
 twice = alone (scripted a (inner (alone (scripted b (inner (alone (scripted c bare bare))) bare))) bare)
@@ -38,20 +36,13 @@ wrapped = alone (fraction (atom a) (enclosed (alone (scripted b bare bare))))
 abbrev unwrapped : Sum
 unwrapped = alone (fraction (atom a) (atom b))
 
--- ---- none of them is proper
+-- ---- neither demand is met
 abbrev printed : List ℕ → Result (List ℕ) → Bool
 printed s (passed x) = same x s
 printed s (refused n) = false
 
 misprints : (s : Sum) → same (latex s) (latex s) ≡ true → printed (latex s) (typstToLatex [] true (text s)) ≡ false → typstToLatex [] true (text s) ≡ passed (latex s) → ⊥
 misprints s self other e = true≢false (sym self ∙ sym (ap (printed (latex s)) e) ∙ other)
-
-pub slash-improper : proper slashed ≡ false
-slash-improper = refl
-
-pub slash-misprints : typstToLatex [] true (text slashed) ≡ passed (latex slashed) → ⊥
-unfolding typstToLatex text latex
-slash-misprints = misprints slashed refl refl
 
 pub script-improper : proper twice ≡ false
 script-improper = refl
@@ -66,3 +57,15 @@ parentheses-improper = refl
 pub parentheses-alike : (latex wrapped ≡ latex unwrapped) × (text wrapped ≡ text unwrapped → ⊥)
 unfolding text latex
 parentheses-alike = (refl, λ e. true≢false (ap (λ x. same x (bytes "a/(b)")) e))
+
+-- ---- a bare chain
+-- `(a/b)/c`
+abbrev divided : Sum
+divided = alone (fraction (enclosed (alone (fraction (atom a) (atom b)))) (atom c))
+
+pub divided-proper : proper divided ≡ true
+divided-proper = refl
+
+pub chain-alike : (typstToLatex [] true (bytes "a/b/c") ≡ passed (latex divided)) × (text divided ≡ bytes "a/b/c" → ⊥)
+unfolding typstToLatex text latex
+chain-alike = (refl, λ e. true≢false (sym (ap (λ x. same x (bytes "a/b/c")) e)))

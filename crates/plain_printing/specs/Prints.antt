@@ -23,7 +23,7 @@ use Rattle.spec.specs.Finish.{escapeSetBraces, lr, convertLr, sizeDelimitersToC
 use Rattle.spec.specs.Pipeline.{markSolidus, unmarkSolidus, convertSyntax, typstToLatex}
 use Rattle.spec.specs.Laws.Absent.{replace-absent, cases-absent, attach-absent, quotes-absent, thin-spaces-absent}
 use Rattle.spec.specs.Laws.Held.{in-full-none}
-use Rattle.plain_printing.specs.Tree.{Tree, PlainTree, depth, markedStyle, finalStyle, write, text, treeLatex}
+use Rattle.plain_printing.specs.Tree.{Tree, PlainTree, height, markedStyle, finalStyle, write, text, treeLatex}
 use Rattle.plain_printing.specs.Settle.{settle-only, settle-does}
 use Rattle.plain_printing.specs.SizingTree.{size-plain}
 use Rattle.plain_printing.specs.Alphabet.{ends-plain}
@@ -41,7 +41,7 @@ module _ (t : Tree) (plain : PlainTree t) where
 
   -- ---- stages that copy the formula as typed: r stands before
   typed-short : TreeFits t → length (text t) ≤ mostSymbols
-  typed-short = early-short t plain 0 false false 0
+  typed-short = early-short t 0 false false 0
 
   copies : (f : List ℕ → List ℕ) → f (text t) ≡ text t → Goes (stage f (text t)) (text t)
   copies f e = stage-yields f (text t) e typed-short
@@ -107,7 +107,7 @@ module _ (t : Tree) (plain : PlainTree t) where
   marked below above n = write (markedStyle below above) n t
 
   marked-short : (below above : Bool) (n : ℕ) → TreeFits t → length (marked below above n) ≤ mostSymbols
-  marked-short = early-short t plain 30
+  marked-short = early-short t 30
 
   scripts-yield : (sign : ℕ) → scriptSign sign ≡ true → stopped (sign ∷ bytes "\\text{") ≡ true → (b c b′ c′ : Bool) → convertParenToBrace sign (marked b c 0) ≡ marked b′ c′ 0
       → Goes (convertScripts sign (marked b c 0)) (marked b′ c′ 0)
@@ -124,24 +124,24 @@ module _ (t : Tree) (plain : PlainTree t) where
   superscripts-yield = scripts-yield (code "^") refl refl true false true true (high-scripts t plain)
 
   -- ---- fractions
-  fractions-yield : Goes (convertFractions (marked true true 0)) (marked true true (depth t))
+  fractions-yield : Goes (convertFractions (marked true true 0)) (marked true true (height t))
   unfolding convertFractions
   fractions-yield =
-      record { passes-only = settle-only t plain mostRounds 0; passes = λ fits. settle-does t plain (λ n. marked-short true true n fits) mostRounds 0 (let d = fits .shallow in omega arith) }
+      record { passes-only = settle-only t mostRounds 0; passes = λ fits. settle-does t (λ n. marked-short true true n fits) mostRounds 0 (let d = fits .shallow in omega arith) }
 
   -- ---- the end of convert_syntax
   abbrev stacked : List ℕ
-  stacked = marked true true (depth t)
+  stacked = marked true true (height t)
 
   stacked-copies : (f : List ℕ → List ℕ) → f stacked ≡ stacked → Goes (stage f stacked) stacked
-  stacked-copies f e = stage-yields f stacked e (marked-short true true (depth t))
+  stacked-copies f e = stage-yields f stacked e (marked-short true true (height t))
 
   final-copies : (f : List ℕ → List ℕ) → f (treeLatex t) ≡ treeLatex t → Goes (stage f (treeLatex t)) (treeLatex t)
   final-copies f e = stage-yields f (treeLatex t) e (λ fits. fits .short)
 
   lr-yields : Goes (convertLr stacked) stacked
   lr-yields =
-      let h = absent-marked (bytes "lr(") refl true true (depth t) t in
+      let h = absent-marked (bytes "lr(") refl true true (height t) t in
       rw (lr-is-stage stacked h) (stacked-copies (sweep lr 0 0) (lr-sweep-copies stacked h))
 
   syntax-yields : Goes (convertSyntax true (text t)) (treeLatex t)
@@ -158,18 +158,18 @@ module _ (t : Tree) (plain : PlainTree t) where
       (then-yields _ convertGreekCapitals
       (then-yields _ convertWords
       (then-yields _ (replaceRows operatorReplacements)
-      (then-yields _ (replaceRows functionMappings) (copies convertSqrt (sqrt-copies (text t) (absent-typed (bytes "sqrt(") refl t))) (functions-yield t plain))
-      (operators-yield t plain))
-      (words-yield t plain))
-      (capitals-yield t plain))
+      (then-yields _ (replaceRows functionMappings) (copies convertSqrt (sqrt-copies (text t) (absent-typed (bytes "sqrt(") refl t))) (functions-yield t))
+      (operators-yield t))
+      (words-yield t))
+      (capitals-yield t))
       subscripts-yield)
       superscripts-yield)
       fractions-yield)
-      (stacked-copies unmarkSolidus (replace-absent (solidus ∷ []) (bytes "/") stacked (absent-marked (solidus ∷ []) refl true true (depth t) t))))
-      (stacked-copies escapeSetBraces (set-braces-copy true true (depth t) t)))
+      (stacked-copies unmarkSolidus (replace-absent (solidus ∷ []) (bytes "/") stacked (absent-marked (solidus ∷ []) refl true true (height t) t))))
+      (stacked-copies escapeSetBraces (set-braces-copy true true (height t) t)))
       lr-yields)
-      (stage-yields sizeDelimitersToContent stacked (size-plain (depth t) t plain (le-refl (depth t))) (λ fits. fits .short)))
-      (final-copies escapePercent (replace-absent (bytes "%") (bytes "\\%") (treeLatex t) (absent-final (bytes "%") refl (depth t) t)))
+      (stage-yields sizeDelimitersToContent stacked (size-plain (height t) t (le-refl (height t))) (λ fits. fits .short)))
+      (final-copies escapePercent (replace-absent (bytes "%") (bytes "\\%") (treeLatex t) (absent-final (bytes "%") refl (height t) t)))
 
   -- ---- the whole
   pub plain-yields : Goes (typstToLatex [] true (text t)) (treeLatex t)
@@ -179,5 +179,5 @@ module _ (t : Tree) (plain : PlainTree t) where
       (then-yields _ (stage convertAlignment)
       (then-yields _ (convertSyntax true) (then-yields _ (applyDefinitionsOutsideText []) calls-yield definitions-yield) syntax-yields)
       (final-copies convertAlignment
-      (alignment-copies (treeLatex t) (absent-final (bytes "&") refl (depth t) t) (absent-final (bytes " \\\n") refl (depth t) t) (ends-plain finalStyle (depth t) t))))
-      (final-copies dropThinSpaceAfterCommands (thin-spaces-absent (treeLatex t) (absent-final (bytes "\\;") refl (depth t) t)))
+      (alignment-copies (treeLatex t) (absent-final (bytes "&") refl (height t) t) (absent-final (bytes " \\\n") refl (height t) t) (ends-plain finalStyle (height t) t))))
+      (final-copies dropThinSpaceAfterCommands (thin-spaces-absent (treeLatex t) (absent-final (bytes "\\;") refl (height t) t)))

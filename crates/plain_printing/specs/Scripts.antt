@@ -3,7 +3,7 @@ use mathlib.Core.Path.{_≡_, refl, sym, ap, _∙_}
 use mathlib.Core.Bool.{Bool, true, false, not, _&&_, true≢false, and-false}
 use mathlib.Core.List.{List, [], _∷_, _++_, append-nil, append-assoc}
 use mathlib.Core.Option.{some}
-use Prim.Native.Nat.{ℕ, zero, suc, pred, _+_, _-_}
+use Prim.Native.Nat.{ℕ, pred, _+_, _-_}
 use Prim.Native.Char.{code}
 use native.Mathlib.Omega.{arith}
 use lib.Dec.{eqb}
@@ -140,10 +140,10 @@ mutual
         script-free-script b c b′ c′ n (bytes "_") b b′ l (and-left (scriptlessScript l) (scriptlessScript h) e),
         script-free-script b c b′ c′ n (bytes "^") c c′ h (and-right (scriptlessScript l) (scriptlessScript h) e),
       )
-  script-free b c b′ c′ zero (fraction t u) e =
-      rw (script-free b c b′ c′ 0 t (and-left (scriptless t) (scriptless u) e), script-free b c b′ c′ 0 u (and-right (scriptless t) (scriptless u) e))
-  script-free b c b′ c′ (suc n) (fraction t u) e =
-      rw (script-free b c b′ c′ 0 t (and-left (scriptless t) (scriptless u) e), script-free b c b′ c′ n u (and-right (scriptless t) (scriptless u) e))
+  script-free b c b′ c′ n (fraction t u) e =
+      let left = and-left (scriptless t) (scriptless u) e in
+      let right = and-right (scriptless t) (scriptless u) e in
+      rw (script-free b c b′ c′ n t left, script-free b c b′ c′ n u right, script-free b c b′ c′ (pred n) t left, script-free b c b′ c′ (pred n) u right)
   script-free b c b′ c′ n (group t) e = rw (script-free b c b′ c′ n t e)
   script-free b c b′ c′ n (row t j u) e =
       rw (script-free b c b′ c′ n t (and-left (scriptless t) (scriptless u) e), script-free b c b′ c′ n u (and-right (scriptless t) (scriptless u) e))
@@ -168,9 +168,9 @@ module _ (m : ℕ) (hm : scriptSign m ≡ true) (b c b′ c′ : Bool) (below : 
         _then_ m hm (copied m hm (atomWriting 30 a) (all-weaken bareSymbol unmarked (bare-unmarked m hm) (atomWriting 30 a) (atom-bare a)))
         (_then_ m hm (script-turns below l (k .0)) (script-turns above h (k .1)))
     tree-turns (fraction t u) k =
-        _then_ m hm (operand-turns m hm (lone t) (tree-turns t (k .1))) (_then_ m hm (copied m hm (bytes "/") refl) (operand-turns m hm (lone u) (tree-turns u (k .2))))
+        _then_ m hm (operand-turns m hm (lone t) (tree-turns t (k .0))) (_then_ m hm (copied m hm (bytes "/") refl) (operand-turns m hm (lone u) (tree-turns u (k .1))))
     tree-turns (group t) k = operand-turns m hm false (tree-turns t k)
-    tree-turns (row t j u) k = _then_ m hm (tree-turns t (k .1)) (_then_ m hm (join-turns m hm j) (tree-turns u (k .2)))
+    tree-turns (row t j u) k = _then_ m hm (tree-turns t (k .0)) (_then_ m hm (join-turns m hm j) (tree-turns u (k .1)))
 
     script-turns : {x : ℕ} {k k′ : Bool} → Changes m x k k′ → (z : TreeScript) → PlainScript z → BecomesBraced m (writeScript (markedStyle b c) 0 (x ∷ []) k z) (writeScript (markedStyle b′ c′) 0 (x ∷ []) k′ z)
     script-turns ch bare p = copied m hm [] refl

@@ -15,15 +15,15 @@ use Rattle.spec.specs.Finish.{tall, scriptGroup, closing, alreadySized, Group, 
 use Rattle.spec.specs.Grammar.{Atom}
 use Rattle.spec.specs.Laws.Booleans.{and-left, and-right}
 use Rattle.spec.specs.Laws.Symbols.{starts-unequal, until-append}
-use Rattle.plain_printing.specs.Tree.{Tree, TreeScript, Join, beside, plus, minus, atom, fraction, group, row, bare, symbol, inner, atomWriting, joinText, parens, slashless, depth, PlainTree, bracedStyle, finalStyle, write, writeScript}
+use Rattle.plain_printing.specs.Tree.{Tree, TreeScript, Join, beside, plus, minus, atom, fraction, group, row, bare, symbol, inner, atomWriting, joinText, parens, slashless, height, bracedStyle, finalStyle, write, writeScript, stacked}
 use Rattle.plain_printing.specs.Classes.{apart, noneOf, excludes, all-weaken}
-use Rattle.plain_printing.specs.Unlatex.{bareSymbol, atom-bare, slashless-flat}
+use Rattle.plain_printing.specs.Unlatex.{bareSymbol, atom-bare}
 use Rattle.plain_printing.specs.Nest.{Nest, through}
 use Rattle.plain_printing.specs.Written.{nest}
 use Rattle.plain_printing.specs.Operand.{Edge, start, after-space, after-paren, after-brace, close-through, calm-side}
 use Rattle.plain_printing.specs.Rule.{Marker, low, high}
 use Rattle.plain_printing.specs.Tall.{tall-tree}
-use Rattle.plain_printing.specs.Round.{join-edge, edge-unmarked}
+use Rattle.plain_printing.specs.Turns.{join-edge, edge-unmarked}
 
 -- ---- a part of the text is sized, and enough fuel is left for the rest
 pub record PartSized (f : ℕ) (o s w r : List ℕ) : Type 0 where
@@ -200,24 +200,25 @@ script-becomes : (n : ℕ) {m : ℕ} → Marker m → (c : TreeScript) → {o : 
 script-becomes n mk c {o} = record { at = script-sized n mk c o }
 
 infixr 20 _then_
-tree-sized : (n : ℕ) (t : Tree) → PlainTree t → depth t ≤ n → (o : List ℕ) → Edge o → Becomes o (write bracedStyle n t) (write finalStyle n t)
+tree-sized : (n : ℕ) (t : Tree) → height t ≤ n → (o : List ℕ) → Edge o → Becomes o (write bracedStyle n t) (write finalStyle n t)
 unfolding write
-tree-sized n (atom a l h) k d o edge =
+tree-sized n (atom a l h) d o edge =
     copied (atomWriting 30 a) (atom-quiet a) then script-becomes n low l then script-becomes n high h
-tree-sized zero (fraction t u) k d o edge = absurd (omega arith)
-tree-sized (suc n) (fraction t u) k d o edge =
-    copied (bytes "\\frac{") refl then tree-sized 0 t (k .1) (slashless-flat t (k .0)) _ after-brace then copied (bytes "}{") refl
-    then tree-sized n u (k .2) (omega arith) _ after-brace then copied (bytes "}") refl
-tree-sized n (group t) k d o edge =
-    record { at = group-sized (not (slashless t)) (write bracedStyle n t) (write finalStyle n t) (nest bracedStyle n t) (tall-tree n t d) (λ o e. (tree-sized n t k d o e) .at) o edge }
-tree-sized n (row t j u) k d o edge =
-    tree-sized n t (k .1) (omega arith) o edge then copied (joinText j) (join-quiet j) then tree-sized n u (k .2) (omega arith) _ (join-edge j _)
+tree-sized zero (fraction t u) d o edge = absurd (omega arith)
+tree-sized (suc n) (fraction t u) d o edge =
+    rw (stacked bracedStyle n t u (omega arith), stacked finalStyle n t u (omega arith))
+    (copied (bytes "\\frac{") refl then tree-sized n t (omega arith) _ after-brace then copied (bytes "}{") refl
+    then tree-sized n u (omega arith) _ after-brace then copied (bytes "}") refl)
+tree-sized n (group t) d o edge =
+    record { at = group-sized (not (slashless t)) (write bracedStyle n t) (write finalStyle n t) (nest bracedStyle n t) (tall-tree n t d) (λ o e. (tree-sized n t d o e) .at) o edge }
+tree-sized n (row t j u) d o edge =
+    tree-sized n t (omega arith) o edge then copied (joinText j) (join-quiet j) then tree-sized n u (omega arith) _ (join-edge j _)
 
 -- sizing a stacked tree
-pub size-plain : (n : ℕ) (t : Tree) → PlainTree t → depth t ≤ n → sizeDelimitersToContent (write bracedStyle n t) ≡ write finalStyle n t
+pub size-plain : (n : ℕ) (t : Tree) → height t ≤ n → sizeDelimitersToContent (write bracedStyle n t) ≡ write finalStyle n t
 unfolding sizeDelimitersToContent
-size-plain n t k d =
+size-plain n t d =
     let s : List ℕ = write bracedStyle n t in
     let w : List ℕ = write finalStyle n t in
-    let done : PartSized (length s) [] (s ++ []) w [] = (tree-sized n t k d [] start) .at (length s) [] (omega (arith, length-append s [])) in
+    let done : PartSized (length s) [] (s ++ []) w [] = (tree-sized n t d [] start) .at (length s) [] (omega (arith, length-append s [])) in
     ap (sizeWith (length s) []) (sym (append-nil s)) ∙ done .sizes ∙ ap (λ (l : List ℕ). w ++ l) (sized-nothing (done .left) (reverseAux w [])) ∙ append-nil w

@@ -16,7 +16,7 @@ use Rattle.spec.specs.Fractions.{mostRounds}
 use Rattle.spec.specs.Laws.Booleans.{and-left, and-right}
 use Rattle.spec.specs.Laws.Held.{unheld, in-full-none}
 use Rattle.spec.specs.Laws.Absent.{replace-absent}
-use Rattle.plain_printing.specs.Tree.{Tree, PlainTree, depth, typedStyle, markedStyle, write, text, treeLatex}
+use Rattle.plain_printing.specs.Tree.{Tree, height, typedStyle, markedStyle, write, text, treeLatex}
 use Rattle.plain_printing.specs.Absent.{stopped, absent-typed}
 use Rattle.plain_printing.specs.WordsCopy.{twoLetters, wordRow, word-row-copies, capital-row-copies}
 use Rattle.plain_printing.specs.Greek.{allRowsAt, passRule, passes-hold, greek-pass}
@@ -24,18 +24,18 @@ use Rattle.plain_printing.specs.Growth.{latex-longest}
 use Rattle.plain_printing.specs.Blocks.{both-nowhere}
 use Rattle.plain_printing.specs.Yields.{Yields, passed-yields, then-yields, stage-yields, held-yields}
 
--- what numbers 5 and 7 ask of a plain formula: its fractions enclose one another at most 64 deep, and its LaTeX is not overgrown
+-- what numbers 5 and 7 ask of a plain formula: at most 64 of its fractions stand one within another, and its LaTeX is not overgrown
 pub record TreeFits (t : Tree) : Type 0 where
-  pub shallow : depth t ≤ mostRounds
+  pub shallow : height t ≤ mostRounds
   pub short : length (treeLatex t) ≤ mostSymbols
 
 abbrev every : (Row → Bool) → List Row → Bool
 every test [] = true
 every test (r ∷ rs) = test r && every test rs
 
-module _ (t : Tree) (plain : PlainTree t) where
+module _ (t : Tree) where
   pub early-short : (k : ℕ) (b c : Bool) (n : ℕ) → TreeFits t → length (write (record { greeks = k; low = b; high = c; sized = false }) n t) ≤ mostSymbols
-  early-short k b c n fits = le-trans (latex-longest k b c n t plain) (fits .short)
+  early-short k b c n fits = le-trans (latex-longest k b c n t) (fits .short)
 
   typed-short : (k : ℕ) → TreeFits t → length (write (typedStyle k) 0 t) ≤ mostSymbols
   typed-short k fits = early-short k false false 0 fits

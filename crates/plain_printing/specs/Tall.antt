@@ -13,7 +13,7 @@ use Rattle.spec.specs.Finish.{tall}
 use Rattle.spec.specs.Grammar.{Atom, variable, greek, number, greekNames, greekName}
 use Rattle.spec.specs.Laws.Booleans.{and-left, and-right, or-right}
 use Rattle.spec.specs.Laws.Names.{allRows}
-use Rattle.plain_printing.specs.Tree.{Tree, TreeScript, Join, beside, plus, minus, atom, fraction, group, row, bare, symbol, inner, atomWriting, joinText, slashless, slashlessScript, depth, depthScript, bracedStyle, write, writeScript}
+use Rattle.plain_printing.specs.Tree.{Tree, TreeScript, Join, beside, plus, minus, atom, fraction, group, row, bare, symbol, inner, atomWriting, joinText, slashless, slashlessScript, height, heightScript, bracedStyle, write, writeScript, stacked}
 use Rattle.plain_printing.specs.Classes.{apart, all-weaken}
 use Rattle.plain_printing.specs.Unlatex.{clash, no-command, letter-alnum, digit-alnum, greek-alnum}
 
@@ -93,14 +93,14 @@ and-cases false b e = inl refl
 mutual
   unfolding write writeScript
 
-  fractured : (n : ℕ) (t : Tree) → depth t ≤ n → slashless t ≡ false → Fractured (write bracedStyle n t)
+  fractured : (n : ℕ) (t : Tree) → height t ≤ n → slashless t ≡ false → Fractured (write bracedStyle n t)
   fractured n (atom a l h) d e =
       frac-behind (atomWriting 30 a) (elim (and-cases (slashlessScript l) (slashlessScript h) e) [
         | inl p ↦ frac-before _ (fractured-script n (bytes "_") l (omega arith) p)
         | inr p ↦ frac-behind (writeScript bracedStyle n (bytes "_") true l) (fractured-script n (bytes "^") h (omega arith) p)
       ])
   fractured zero (fraction t u) d e = absurd (omega arith)
-  fractured (suc n) (fraction t u) d e = record { holds-frac = λ r. refl }
+  fractured (suc n) (fraction t u) d e = rw (stacked bracedStyle n t u (omega arith)) (record { holds-frac = λ r. refl })
   fractured n (group t) d e = frac-behind (bytes "(") (frac-before (bytes ")") (fractured n t d e))
   fractured n (row t j u) d e =
       elim (and-cases (slashless t) (slashless u) e) [
@@ -108,7 +108,7 @@ mutual
         | inr p ↦ frac-behind (write bracedStyle n t) (frac-behind (joinText j) (fractured n u (omega arith) p))
       ]
 
-  fractured-script : (n : ℕ) (m : List ℕ) (c : TreeScript) → depthScript c ≤ n → slashlessScript c ≡ false → Fractured (writeScript bracedStyle n m true c)
+  fractured-script : (n : ℕ) (m : List ℕ) (c : TreeScript) → heightScript c ≤ n → slashlessScript c ≡ false → Fractured (writeScript bracedStyle n m true c)
   fractured-script n m bare d e = absurd (true≢false e)
   fractured-script n m (symbol c i) d e = absurd (true≢false e)
   fractured-script n m (inner t) d e = frac-behind m (frac-behind (bytes "{") (frac-before (bytes "}") (fractured n t d e)))
@@ -117,7 +117,7 @@ mutual
 contains-alone : (w s : List ℕ) → contains w (s ++ []) ≡ contains w s
 contains-alone w s = ap (contains w) (append-nil s)
 
-pub tall-tree : (n : ℕ) (t : Tree) → depth t ≤ n → tall (write bracedStyle n t) ≡ not (slashless t)
+pub tall-tree : (n : ℕ) (t : Tree) → height t ≤ n → tall (write bracedStyle n t) ≡ not (slashless t)
 tall-tree n t d = go (slashless t) refl
   where
     absent-in : (w : List ℕ) → allRows (clash w) greekNames ≡ true → slashless t ≡ true → contains (code "\\" ∷ w) (write bracedStyle n t) ≡ false

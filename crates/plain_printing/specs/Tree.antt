@@ -2,8 +2,9 @@
 use mathlib.Core.Path.{_≡_}
 use mathlib.Core.Bool.{Bool, true, false, not, cond, _&&_}
 use mathlib.Core.List.{List, [], _∷_, _++_}
-use Prim.Native.Nat.{ℕ, zero, suc, max}
+use Prim.Native.Nat.{ℕ, zero, suc, pred, _≤_, max}
 use lib.Dec.{ltb}
+use borrow.Author.Tests.{le-ltb}
 use Rattle.spec.specs.Symbols.{bytes, alnum}
 use Rattle.spec.specs.Fractions.{frac}
 use Rattle.spec.specs.Grammar.{Atom, variable, greek, number, greekName}
@@ -29,13 +30,7 @@ mutual
     symbol : (c : ℕ) → alnum c ≡ true → TreeScript
     inner : Tree → TreeScript
 
-abbrev pub isRow : Tree → Bool
-isRow (atom a l h) = false
-isRow (fraction t u) = false
-isRow (group t) = false
-isRow (row t j u) = true
-
--- What a tree must be besides: no slash in a numerator, no script in a script, and in a row the first tree one factor.
+-- no slash, so no fraction
 abbrev mutual
   pub slashless : Tree → Bool
   slashless (atom a l h) = slashlessScript l && slashlessScript h
@@ -60,12 +55,13 @@ abbrev mutual
   scriptlessScript (symbol c e) = false
   scriptlessScript (inner t) = false
 
+-- What a tree must be besides: no script in a script.
 abbrev mutual
   pub PlainTree : Tree → Type 0
   PlainTree (atom a l h) = PlainScript l × PlainScript h
-  PlainTree (fraction t u) = (slashless t ≡ true) × PlainTree t × PlainTree u
+  PlainTree (fraction t u) = PlainTree t × PlainTree u
   PlainTree (group t) = PlainTree t
-  PlainTree (row t j u) = (isRow t ≡ false) × PlainTree t × PlainTree u
+  PlainTree (row t j u) = PlainTree t × PlainTree u
 
   pub PlainScript : TreeScript → Type 0
   PlainScript bare = Unit {0}
@@ -113,12 +109,30 @@ abbrev pub scriptBrackets : Bool → List ℕ → List ℕ
 scriptBrackets true s = bytes "{" ++ (s ++ bytes "}")
 scriptBrackets false s = bytes "(" ++ (s ++ bytes ")")
 
--- A tree written with the fractions inside fewer than n denominators stacked, and the others with their slash.
+-- how many fractions stand one within another
+abbrev mutual
+  pub height : Tree → ℕ
+  height (atom a l h) = max (heightScript l) (heightScript h)
+  height (fraction t u) = suc (max (height t) (height u))
+  height (group t) = height t
+  height (row t j u) = max (height t) (height u)
+
+  pub heightScript : TreeScript → ℕ
+  heightScript bare = 0
+  heightScript (symbol c e) = 0
+  heightScript (inner t) = height t
+
+-- Which fractions n rounds have not stacked yet, by their numerator: a round stacks a fraction once its numerator holds no slash, and leaves it till then.
+abbrev pub unstacked : ℕ → Tree → Bool
+unstacked zero t = true
+unstacked (suc n) t = ltb n (height t)
+
+-- A tree as n rounds have written it. The round that stacks a fraction does not look into its operands, so these are as the round before left them.
 unfoldable mutual
   pub write : Style → ℕ → Tree → List ℕ
   write s n (atom a l h) = atomWriting (s .greeks) a ++ (writeScript s n (bytes "_") (s .low) l ++ writeScript s n (bytes "^") (s .high) h)
-  write s zero (fraction t u) = slashed (operand (lone t) (write s 0 t)) (operand (lone u) (write s 0 u))
-  write s (suc n) (fraction t u) = frac (write s 0 t) (write s n u)
+  write s n (fraction t u) =
+      cond (unstacked n t) (slashed (operand (lone t) (write s n t)) (operand (lone u) (write s n u))) (frac (write s (pred n) t) (write s (pred n) u))
   write s n (group t) = parens (s .sized && not (slashless t)) (write s n t)
   write s n (row t j u) = write s n t ++ (joinText j ++ write s n u)
 
@@ -126,6 +140,16 @@ unfoldable mutual
   writeScript s n mark braced bare = []
   writeScript s n mark braced (symbol c e) = mark ++ c ∷ []
   writeScript s n mark braced (inner t) = mark ++ scriptBrackets braced (write (unsized s) n t)
+
+-- what holds of a fraction with its slash and stacked, holds of it after any round
+pub either-way : (P : List ℕ → Type 0) (b : Bool) {x y : List ℕ} → P x → P y → P (cond b x y)
+either-way P true p q = p
+either-way P false p q = q
+
+-- a fraction no higher than the rounds is stacked
+pub stacked : (s : Style) (n : ℕ) (t u : Tree) → height t ≤ n → write s (suc n) (fraction t u) ≡ frac (write s n t) (write s n u)
+unfolding write
+stacked s n t u h = rw (le-ltb n (height t) h)
 
 -- as typed, with the Greek rows below k marked
 abbrev pub typedStyle : ℕ → Style
@@ -145,22 +169,9 @@ bracedStyle = markedStyle true true
 abbrev pub finalStyle : Style
 finalStyle = record { greeks = 30; low = true; high = true; sized = true }
 
--- how many fractions enclose one another by their denominators
-abbrev mutual
-  pub depth : Tree → ℕ
-  depth (atom a l h) = max (depthScript l) (depthScript h)
-  depth (fraction t u) = suc (depth u)
-  depth (group t) = depth t
-  depth (row t j u) = max (depth t) (depth u)
-
-  pub depthScript : TreeScript → ℕ
-  depthScript bare = 0
-  depthScript (symbol c e) = 0
-  depthScript (inner t) = depth t
-
 -- the formula, and its LaTeX
 abbrev pub text : Tree → List ℕ
 text t = write typstStyle 0 t
 
 abbrev pub treeLatex : Tree → List ℕ
-treeLatex t = write finalStyle (depth t) t
+treeLatex t = write finalStyle (height t) t

@@ -6,7 +6,7 @@ use native.Mathlib.Omega.{arith}
 use Rattle.spec.specs.Grammar
 use Rattle.spec.specs.Grammar.{Sum, product, plus, minus, Product, factor, beside, Factor, scripted, fraction, group, Operand, atom, enclosed, Script, bare, symbol, inner}
 use Rattle.spec.specs.Laws.Booleans.{and-left, and-right}
-use Rattle.plain_printing.specs.Tree.{Tree, TreeScript, Join, isRow, slashless, slashlessScript, scriptless, scriptlessScript, PlainTree, PlainScript, lone, depth, depthScript}
+use Rattle.plain_printing.specs.Tree.{Tree, TreeScript, Join, slashless, slashlessScript, scriptless, scriptlessScript, PlainTree, PlainScript, lone, height, heightScript}
 
 -- `onto` puts the factors of a product before a row
 abbrev mutual
@@ -56,10 +56,6 @@ mutual
   slashless-factor (scripted a l h) = ap₂ _&&_ (slashless-script l) (slashless-script h)
   slashless-factor (fraction n d) = refl
   slashless-factor (group s) = slashless-tree s
-
-  pub slashless-operand : (o : Operand) → slashless (operandTree o) ≡ Grammar.slashlessOperand o
-  slashless-operand (atom a) = refl
-  slashless-operand (enclosed s) = slashless-tree s
 
   slashless-script : (c : Script) → slashlessScript (scriptTree c) ≡ Grammar.slashlessScript c
   slashless-script bare = refl
@@ -118,46 +114,41 @@ lone-tree (product p) = lone-product p
 lone-tree (plus p s) = lone-onto p Join.plus (treeOf s)
 lone-tree (minus p s) = lone-onto p Join.minus (treeOf s)
 
--- ---- depth
+-- ---- height
 max-assoc : (a b c : ℕ) → max a (max b c) ≡ max (max a b) c
 max-assoc a b c = omega arith
 
 mutual
-  unfolding Grammar.depth Grammar.productDepth Grammar.factorDepth Grammar.operandDepth Grammar.scriptDepth
+  unfolding Grammar.height Grammar.productHeight Grammar.factorHeight Grammar.operandHeight Grammar.scriptHeight
 
-  pub depth-tree : (s : Sum) → depth (treeOf s) ≡ Grammar.depth s
-  depth-tree (product p) = depth-product p
-  depth-tree (plus p s) = depth-onto p Join.plus (treeOf s) ∙ ap (max (Grammar.productDepth p)) (depth-tree s)
-  depth-tree (minus p s) = depth-onto p Join.minus (treeOf s) ∙ ap (max (Grammar.productDepth p)) (depth-tree s)
+  pub height-tree : (s : Sum) → height (treeOf s) ≡ Grammar.height s
+  height-tree (product p) = height-product p
+  height-tree (plus p s) = height-onto p Join.plus (treeOf s) ∙ ap (max (Grammar.productHeight p)) (height-tree s)
+  height-tree (minus p s) = height-onto p Join.minus (treeOf s) ∙ ap (max (Grammar.productHeight p)) (height-tree s)
 
-  depth-product : (p : Product) → depth (productTree p) ≡ Grammar.productDepth p
-  depth-product (factor f) = depth-factor f
-  depth-product (beside f p) = ap₂ max (depth-factor f) (depth-product p)
+  height-product : (p : Product) → height (productTree p) ≡ Grammar.productHeight p
+  height-product (factor f) = height-factor f
+  height-product (beside f p) = ap₂ max (height-factor f) (height-product p)
 
-  depth-onto : (p : Product) (j : Join) (t : Tree) → depth (onto p j t) ≡ max (Grammar.productDepth p) (depth t)
-  depth-onto (factor f) j t = ap (λ d. max d (depth t)) (depth-factor f)
-  depth-onto (beside f p) j t = ap₂ max (depth-factor f) (depth-onto p j t) ∙ max-assoc (Grammar.factorDepth f) (Grammar.productDepth p) (depth t)
+  height-onto : (p : Product) (j : Join) (t : Tree) → height (onto p j t) ≡ max (Grammar.productHeight p) (height t)
+  height-onto (factor f) j t = ap (λ d. max d (height t)) (height-factor f)
+  height-onto (beside f p) j t = ap₂ max (height-factor f) (height-onto p j t) ∙ max-assoc (Grammar.factorHeight f) (Grammar.productHeight p) (height t)
 
-  depth-factor : (f : Factor) → depth (factorTree f) ≡ Grammar.factorDepth f
-  depth-factor (scripted a l h) = ap₂ max (depth-script l) (depth-script h)
-  depth-factor (fraction n d) = ap suc (depth-operand d)
-  depth-factor (group s) = depth-tree s
+  height-factor : (f : Factor) → height (factorTree f) ≡ Grammar.factorHeight f
+  height-factor (scripted a l h) = ap₂ max (height-script l) (height-script h)
+  height-factor (fraction n d) = ap suc (ap₂ max (height-operand n) (height-operand d))
+  height-factor (group s) = height-tree s
 
-  depth-operand : (o : Operand) → depth (operandTree o) ≡ Grammar.operandDepth o
-  depth-operand (atom a) = refl
-  depth-operand (enclosed s) = depth-tree s
+  height-operand : (o : Operand) → height (operandTree o) ≡ Grammar.operandHeight o
+  height-operand (atom a) = refl
+  height-operand (enclosed s) = height-tree s
 
-  depth-script : (c : Script) → depthScript (scriptTree c) ≡ Grammar.scriptDepth c
-  depth-script bare = refl
-  depth-script (symbol c e) = refl
-  depth-script (inner s) = depth-tree s
+  height-script : (c : Script) → heightScript (scriptTree c) ≡ Grammar.scriptHeight c
+  height-script bare = refl
+  height-script (symbol c e) = refl
+  height-script (inner s) = height-tree s
 
 -- ---- what the rules ask besides
-factor-no-row : (f : Factor) → isRow (factorTree f) ≡ false
-factor-no-row (scripted a l h) = refl
-factor-no-row (fraction n d) = refl
-factor-no-row (group s) = refl
-
 mutual
   pub plain-tree : (s : Sum) → Grammar.proper s ≡ true → PlainTree (treeOf s)
   plain-tree (product p) h = plain-product p h
@@ -167,22 +158,18 @@ mutual
   plain-product : (p : Product) → Grammar.properProduct p ≡ true → PlainTree (productTree p)
   plain-product (factor f) h = plain-factor f h
   plain-product (beside f p) h =
-      (factor-no-row f, plain-factor f (and-left (Grammar.properFactor f) (Grammar.properProduct p) h), plain-product p (and-right (Grammar.properFactor f) (Grammar.properProduct p) h))
+      (plain-factor f (and-left (Grammar.properFactor f) (Grammar.properProduct p) h), plain-product p (and-right (Grammar.properFactor f) (Grammar.properProduct p) h))
 
   plain-onto : (p : Product) (j : Join) (t : Tree) → Grammar.properProduct p ≡ true → PlainTree t → PlainTree (onto p j t)
-  plain-onto (factor f) j t h k = (factor-no-row f, plain-factor f h, k)
+  plain-onto (factor f) j t h k = (plain-factor f h, k)
   plain-onto (beside f p) j t h k =
-      (factor-no-row f, plain-factor f (and-left (Grammar.properFactor f) (Grammar.properProduct p) h), plain-onto p j t (and-right (Grammar.properFactor f) (Grammar.properProduct p) h) k)
+      (plain-factor f (and-left (Grammar.properFactor f) (Grammar.properProduct p) h), plain-onto p j t (and-right (Grammar.properFactor f) (Grammar.properProduct p) h) k)
 
   plain-factor : (f : Factor) → Grammar.properFactor f ≡ true → PlainTree (factorTree f)
   plain-factor (scripted a l h) k =
       (plain-script l (and-left (Grammar.properScript l) (Grammar.properScript h) k), plain-script h (and-right (Grammar.properScript l) (Grammar.properScript h) k))
   plain-factor (fraction n d) k =
-      let both : Grammar.properOperand n && Grammar.properOperand d ≡ true = and-right (Grammar.slashlessOperand n) (Grammar.properOperand n && Grammar.properOperand d) k in (
-        slashless-operand n ∙ and-left (Grammar.slashlessOperand n) (Grammar.properOperand n && Grammar.properOperand d) k,
-        plain-operand n (and-left (Grammar.properOperand n) (Grammar.properOperand d) both),
-        plain-operand d (and-right (Grammar.properOperand n) (Grammar.properOperand d) both),
-      )
+      (plain-operand n (and-left (Grammar.properOperand n) (Grammar.properOperand d) k), plain-operand d (and-right (Grammar.properOperand n) (Grammar.properOperand d) k))
   plain-factor (group s) k = plain-tree s k
 
   plain-operand : (o : Operand) → Grammar.properOperand o ≡ true → PlainTree (operandTree o)

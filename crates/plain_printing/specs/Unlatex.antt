@@ -13,7 +13,7 @@ use Rattle.spec.specs.Symbols.{bytes, letter, digit, alnum, all, starts}
 use Rattle.spec.specs.Grammar.{Atom, variable, greek, number, greekNames, greekName}
 use Rattle.spec.specs.Laws.Booleans.{and-left, and-right, or-right}
 use Rattle.spec.specs.Laws.Names.{allRows, row-rule}
-use Rattle.plain_printing.specs.Tree.{Tree, TreeScript, Style, Join, beside, plus, minus, atom, fraction, group, row, bare, symbol, inner, atomWriting, joinText, operand, lone, parens, slashless, slashlessScript, PlainTree, PlainScript, depth, depthScript, typstStyle, write, writeScript, text, treeLatex}
+use Rattle.plain_printing.specs.Tree.{Tree, TreeScript, Style, Join, beside, plus, minus, atom, fraction, group, row, bare, symbol, inner, atomWriting, joinText, operand, lone, parens, slashless, height, heightScript, typstStyle, write, writeScript, stacked, text, treeLatex}
 use Rattle.plain_printing.specs.Classes.{apart, all-weaken}
 use Rattle.plain_printing.specs.Written.{greek-letters}
 
@@ -154,15 +154,15 @@ ahead-scripts b n a (symbol c e) h r = refl
 ahead-scripts b n a (inner t) h r = refl
 
 -- a stacked text is a lone atom's or meets another symbol before any closing brace
-ahead : (b : Bool) (n : ℕ) (t : Tree) → depth t ≤ n → (r : List ℕ) → bareAhead (write (styled b) n t ++ r) ≡ lone t && bareAhead r
+ahead : (b : Bool) (n : ℕ) (t : Tree) → height t ≤ n → (r : List ℕ) → bareAhead (write (styled b) n t ++ r) ≡ lone t && bareAhead r
 unfolding write
 ahead b n (atom a l h) d r = simp append-assoc (bare-atom a _ ∙ ahead-scripts b n a l h r)
 ahead b zero (fraction t u) d r = absurd (omega arith)
-ahead b (suc n) (fraction t u) d r = refl
+ahead b (suc n) (fraction t u) d r = rw (stacked (styled b) n t u (omega arith))
 ahead b n (group t) d r = ahead-parens (b && not (slashless t)) (write (styled b) n t) r
 ahead b n (row t j u) d r = simp append-assoc (ahead b n t (omega arith) _ ∙ ap (λ c. lone t && c) (ahead-join j _) ∙ and-false (lone t))
 
-ahead-closed : (b : Bool) (n : ℕ) (t : Tree) → depth t ≤ n → (r : List ℕ) → bareAhead (write (styled b) n t ++ code "}" ∷ r) ≡ lone t
+ahead-closed : (b : Bool) (n : ℕ) (t : Tree) → height t ≤ n → (r : List ℕ) → bareAhead (write (styled b) n t ++ code "}" ∷ r) ≡ lone t
 ahead-closed b n t d r = ahead b n t d (code "}" ∷ r) ∙ and-true (lone t)
 
 -- ---- reading back
@@ -189,16 +189,17 @@ reads-join beside fs r = refl
 reads-join plus fs r = refl
 reads-join minus fs r = refl
 
-reads-fraction : (b : Bool) (n : ℕ) (t u : Tree) → depth t ≤ 0 → depth u ≤ n → Reads b 0 t → Reads b n u → Reads b (suc n) (fraction t u)
+reads-fraction : (b : Bool) (n : ℕ) (t u : Tree) → height t ≤ n → height u ≤ n → Reads b n t → Reads b n u → Reads b (suc n) (fraction t u)
 unfolding write unlatex
 reads-fraction b n t u d e num den fs r =
     let end : List ℕ = write (styled b) n u ++ code "}" ∷ r in
     let below : List ℕ = openingParen (lone u) ++ (text u ++ (closingParen (lone u) ++ unlatex 0 fs r)) in
     let denominator-read : unlatex 0 (numerator (lone t) ∷ fs) (code "}" ∷ code "{" ∷ end) ≡ closingParen (lone t) ++ code "/" ∷ below =
     rw (ahead-closed b n u e r) (ap (λ (l : List ℕ). closingParen (lone t) ++ code "/" ∷ (openingParen (lone u) ++ l)) (den (denominator (lone u) ∷ fs) (code "}" ∷ r))) in
-    simp append-assoc
-    (rw (ahead-closed b 0 t d (code "{" ∷ end), operand-parts (lone t) (text t) (code "/" ∷ (operand (lone u) (text u) ++ unlatex 0 fs r)), operand-parts (lone u) (text u) (unlatex 0 fs r))
-    (ap (λ (l : List ℕ). openingParen (lone t) ++ l) (num (numerator (lone t) ∷ fs) (code "}" ∷ code "{" ∷ end) ∙ ap (λ (l : List ℕ). text t ++ l) denominator-read)))
+    rw (stacked (styled b) n t u d)
+    (simp append-assoc
+    (rw (ahead-closed b n t d (code "{" ∷ end), operand-parts (lone t) (text t) (code "/" ∷ (operand (lone u) (text u) ++ unlatex 0 fs r)), operand-parts (lone u) (text u) (unlatex 0 fs r))
+    (ap (λ (l : List ℕ). openingParen (lone t) ++ l) (num (numerator (lone t) ∷ fs) (code "}" ∷ code "{" ∷ end) ∙ ap (λ (l : List ℕ). text t ++ l) denominator-read))))
 
 reads-row : (b : Bool) (n : ℕ) (t : Tree) (j : Join) (u : Tree) → Reads b n t → Reads b n u → Reads b n (row t j u)
 unfolding write
@@ -241,45 +242,27 @@ reads-inner b n m signs t reads fs r =
     simp append-assoc (signs fs (code "{" ∷ (write (styled false) n t ++ code "}" ∷ r)) ∙ ap {B = List ℕ} (λ l. m ∷ code "(" ∷ l) (reads (script ∷ fs) (code "}" ∷ r)))
 
 mutual
-  pub slashless-flat : (t : Tree) → slashless t ≡ true → depth t ≤ 0
-  slashless-flat (atom a l h) e =
-      let low : depthScript l ≤ 0 = flat-script l (and-left (slashlessScript l) (slashlessScript h) e) in
-      let high : depthScript h ≤ 0 = flat-script h (and-right (slashlessScript l) (slashlessScript h) e) in
-      omega arith
-  slashless-flat (fraction t u) e = absurd (true≢false (sym e))
-  slashless-flat (group t) e = slashless-flat t e
-  slashless-flat (row t j u) e =
-      let left : depth t ≤ 0 = slashless-flat t (and-left (slashless t) (slashless u) e) in
-      let right : depth u ≤ 0 = slashless-flat u (and-right (slashless t) (slashless u) e) in
-      omega arith
-
-  flat-script : (c : TreeScript) → slashlessScript c ≡ true → depthScript c ≤ 0
-  flat-script bare e = omega arith
-  flat-script (symbol c i) e = omega arith
-  flat-script (inner t) e = slashless-flat t e
-
-mutual
   unfolding write
 
-  reads-tree : (b : Bool) (n : ℕ) (t : Tree) → PlainTree t → depth t ≤ n → Reads b n t
-  reads-tree b n (atom a l h) k d =
-      reads-atom b n a l h (reads-script b n (code "_") low-sign l (k .0) (omega arith)) (reads-script b n (code "^") high-sign h (k .1) (omega arith))
-  reads-tree b zero (fraction t u) k d = absurd (omega arith)
-  reads-tree b (suc n) (fraction t u) k d =
-      reads-fraction b n t u (slashless-flat t (k .0)) (omega arith) (reads-tree b 0 t (k .1) (slashless-flat t (k .0))) (reads-tree b n u (k .2) (omega arith))
-  reads-tree b n (group t) k d = λ fs r. reads-parens (b && not (slashless t)) b n t (reads-tree b n t k d) fs r ∙ simp append-assoc
-  reads-tree b n (row t j u) k d = reads-row b n t j u (reads-tree b n t (k .1) (omega arith)) (reads-tree b n u (k .2) (omega arith))
+  reads-tree : (b : Bool) (n : ℕ) (t : Tree) → height t ≤ n → Reads b n t
+  reads-tree b n (atom a l h) d =
+      reads-atom b n a l h (reads-script b n (code "_") low-sign l (omega arith)) (reads-script b n (code "^") high-sign h (omega arith))
+  reads-tree b zero (fraction t u) d = absurd (omega arith)
+  reads-tree b (suc n) (fraction t u) d =
+      reads-fraction b n t u (omega arith) (omega arith) (reads-tree b n t (omega arith)) (reads-tree b n u (omega arith))
+  reads-tree b n (group t) d = λ fs r. reads-parens (b && not (slashless t)) b n t (reads-tree b n t d) fs r ∙ simp append-assoc
+  reads-tree b n (row t j u) d = reads-row b n t j u (reads-tree b n t (omega arith)) (reads-tree b n u (omega arith))
 
-  reads-script : (b : Bool) (n m : ℕ) → Signs m → (c : TreeScript) → PlainScript c → depthScript c ≤ n → ReadsScript b n m c
-  reads-script b n m signs bare k d = reads-bare b n m
-  reads-script b n m signs (symbol c e) k d = reads-symbol b n m signs c e
-  reads-script b n m signs (inner t) k d = reads-inner b n m signs t (reads-tree false n t (k .1) d)
+  reads-script : (b : Bool) (n m : ℕ) → Signs m → (c : TreeScript) → heightScript c ≤ n → ReadsScript b n m c
+  reads-script b n m signs bare d = reads-bare b n m
+  reads-script b n m signs (symbol c e) d = reads-symbol b n m signs c e
+  reads-script b n m signs (inner t) d = reads-inner b n m signs t (reads-tree false n t d)
 
 -- the formula from its LaTeX
-pub unlatex-latex : (t : Tree) → PlainTree t → unlatex 0 [] (treeLatex t) ≡ text t
+pub unlatex-latex : (t : Tree) → unlatex 0 [] (treeLatex t) ≡ text t
 unfolding unlatex
-unlatex-latex t k = ap (unlatex 0 []) (sym (append-nil (treeLatex t))) ∙ reads-tree true (depth t) t k (le-refl (depth t)) [] [] ∙ append-nil (text t)
+unlatex-latex t = ap (unlatex 0 []) (sym (append-nil (treeLatex t))) ∙ reads-tree true (height t) t (le-refl (height t)) [] [] ∙ append-nil (text t)
 
 -- two plain formulas that print alike are one
-pub latex-injective : (t u : Tree) → PlainTree t → PlainTree u → treeLatex t ≡ treeLatex u → text t ≡ text u
-latex-injective t u k k′ e = sym (unlatex-latex t k) ∙ ap (unlatex 0 []) e ∙ unlatex-latex u k′
+pub latex-injective : (t u : Tree) → treeLatex t ≡ treeLatex u → text t ≡ text u
+latex-injective t u e = sym (unlatex-latex t) ∙ ap (unlatex 0 []) e ∙ unlatex-latex u

@@ -2,7 +2,7 @@
 use mathlib.Core.Path.{_≡_, refl}
 use mathlib.Core.Bool.{Bool, true, false, cond}
 use mathlib.Core.List.{List, [], _∷_, _++_, append-assoc}
-use Prim.Native.Nat.{ℕ, zero, suc}
+use Prim.Native.Nat.{ℕ, pred}
 use Prim.Native.Char.{code}
 use lib.Dec.{ltb}
 use borrow.Author.Tests.{ltb-true}
@@ -11,7 +11,7 @@ use Rattle.spec.specs.Fractions.{operandSymbol, frac}
 use Rattle.spec.specs.Grammar.{Atom, variable, greek, number, greekNames, greekName}
 use Rattle.spec.specs.Laws.Booleans.{or-right}
 use Rattle.spec.specs.Laws.Names.{row-rule}
-use Rattle.plain_printing.specs.Tree.{Tree, TreeScript, Style, Join, beside, plus, minus, atom, fraction, group, row, bare, symbol, inner, atomWriting, joinText, operand, lone, unsized, write, writeScript, scriptBrackets}
+use Rattle.plain_printing.specs.Tree.{Tree, TreeScript, Style, Join, beside, plus, minus, atom, fraction, group, row, bare, symbol, inner, atomWriting, joinText, operand, lone, unstacked, unsized, write, writeScript, scriptBrackets, either-way}
 use Rattle.plain_printing.specs.Classes.{all-weaken, all-append, excludes}
 use Rattle.plain_printing.specs.Nest.{calm, Nest, run, paren, brace, both}
 
@@ -68,8 +68,9 @@ module _ (s : Style) where
 
     pub nest : (n : ℕ) (t : Tree) → Nest (write (unsized s) n t)
     nest n (atom a l h) = both (atom-nest (s .greeks) a) (both (nest-script n (bytes "_") refl (s .low) l) (nest-script n (bytes "^") refl (s .high) h))
-    nest zero (fraction t u) = both (operand-nest (lone t) (nest 0 t)) (both (run (bytes "/") refl) (operand-nest (lone u) (nest 0 u)))
-    nest (suc n) (fraction t u) = frac-nest (nest 0 t) (nest n u)
+    nest n (fraction t u) =
+        either-way Nest (unstacked n t) (both (operand-nest (lone t) (nest n t)) (both (run (bytes "/") refl) (operand-nest (lone u) (nest n u))))
+        (frac-nest (nest (pred n) t) (nest (pred n) u))
     nest n (group t) = paren (nest n t)
     nest n (row t j u) = both (nest n t) (both (join-nest j) (nest n u))
 

@@ -6,7 +6,7 @@
 use mathlib.Core.Bool.{Bool, true, false, not, cond, _&&_, _||_}
 use mathlib.Core.List.{List, [], _∷_, _++_, reverse, reverseAux}
 use mathlib.Core.Option.{Option, none, some}
-use Prim.Native.Nat.{ℕ, zero, suc, _-_}
+use Prim.Native.Nat.{ℕ, zero, suc, _+_, _-_}
 use Prim.Native.Char.{code}
 use lib.Dec.{eqb, ltb}
 use lib.ListN.{length, drop}
@@ -162,53 +162,82 @@ barred s = not (is "(" (head s)) && passesSolidus (until s (wordAfter 0 s)) (wor
 abbrev pub frac : List ℕ → List ℕ → List ℕ
 frac num den = bytes "\\frac{" ++ (num ++ (bytes "}{" ++ (den ++ bytes "}")))
 
--- how many symbols behind this one are passed, and what is written then, last first
+-- What a round has done so far, each place as the number of symbols before it: the end of the text that it rewrote last, and the slashes that it left
+-- for the next round.
+pub record Done : Type 0 where
+  pub rewritten : ℕ
+  pub left : List ℕ
+
+abbrev pub nothingDone : Done
+nothingDone = record { rewritten = 0; left = [] }
+
+-- the last symbol is a slash that was left
+abbrev pub behindLeft : List ℕ → List ℕ → Bool
+behindLeft left [] = false
+behindLeft left (x ∷ p) = is "/" x && any (eqb (length p)) left
+
+-- Document 02's A4: a slash is left whose numerator, which begins behind q, begins before the end of the text rewritten last, or right behind a slash that
+-- was left, blanks apart.
+abbrev pub isLeft : Done → List ℕ → Bool
+isLeft done q = ltb (length q) (done .rewritten) || behindLeft (done .left) (trimStart q)
+
+-- how many symbols behind this one are passed, what is written then, last first, and what the round has done
 pub record Step : Type 0 where
   pub skip : ℕ
   pub written : List ℕ
+  pub done : Done
 
-abbrev pub copied : ℕ → List ℕ → Step
-copied x o = record { skip = 0; written = x ∷ o }
+abbrev pub copied : Done → ℕ → List ℕ → Step
+copied done x o = record { skip = 0; written = x ∷ o; done = done }
+
+-- the slash behind p
+abbrev pub leaving : Done → List ℕ → Done
+leaving done p = record { rewritten = done .rewritten; left = length p ∷ done .left }
 
 -- The numerator lies between q and the slash, the denominator between the slash and r. As many symbols as lie from the numerator's start to the slash
 -- are dropped from the end of what was written.
-abbrev pub fractionOf : List ℕ → List ℕ → List ℕ → List ℕ → List ℕ → Step
-fractionOf p o s q r =
+abbrev pub fractionOf : Done → List ℕ → List ℕ → List ℕ → List ℕ → List ℕ → Step
+fractionOf done p o s q r =
     record {
       skip = length s - length r;
       written = reverseAux (frac (stripOuterParens (reverse (until (trimStart p) q))) (stripOuterParens (until (trimStart s) r))) (drop (length p - length q) o);
+      done = record { rewritten = suc (length p) + (length s - length r); left = done .left };
     }
 
-abbrev pub withDenominator : List ℕ → List ℕ → List ℕ → List ℕ → Option (List ℕ) → Step
-withDenominator p o s q none = copied (code "/") o
-withDenominator p o s q (some r) = fractionOf p o s q r
+abbrev pub withDenominator : Done → List ℕ → List ℕ → List ℕ → List ℕ → Option (List ℕ) → Step
+withDenominator done p o s q none = copied done (code "/") o
+withDenominator done p o s q (some r) = fractionOf done p o s q r
 
-abbrev pub withNumerator : List ℕ → List ℕ → List ℕ → Option (List ℕ) → Option Step
-withNumerator p o s none = some (copied (code "/") o)
-withNumerator p o s (some q) = elim (barred (trimStart s)) [ true ↦ none | false ↦ some (withDenominator p o s q (findFractionPartAfter (trimStart s))) ]
-
--- the slash between p and s, with o written so far; none where number 9 is met
-unfoldable pub slash : List ℕ → List ℕ → List ℕ → Option Step
-unfolding isInsideSubscriptContext findFractionPartBefore findFractionPartAfter barred stripOuterParens
-slash p o s =
-    elim (isInsideSubscriptContext 0 p) [
-      | true ↦ some (copied (code "/") o)
-      | false ↦ withNumerator p o s (findFractionPartBefore (trimStart p))
+abbrev pub withNumerator : Done → List ℕ → List ℕ → List ℕ → Option (List ℕ) → Option Step
+withNumerator done p o s none = some (copied done (code "/") o)
+withNumerator done p o s (some q) =
+    elim (isLeft done q) [
+      | true ↦ some (copied (leaving done p) (code "/") o)
+      | false ↦ elim (barred (trimStart s)) [ true ↦ none | false ↦ some (withDenominator done p o s q (findFractionPartAfter (trimStart s))) ]
     ]
 
-unfoldable pub fractionsFrom : ℕ → List ℕ → List ℕ → List ℕ → Option (List ℕ)
+-- the slash between p and s, with o written so far; none where number 9 is met
+unfoldable pub slash : Done → List ℕ → List ℕ → List ℕ → Option Step
+unfolding isInsideSubscriptContext findFractionPartBefore findFractionPartAfter barred stripOuterParens
+slash done p o s =
+    elim (isInsideSubscriptContext 0 p) [
+      | true ↦ some (copied done (code "/") o)
+      | false ↦ withNumerator done p o s (findFractionPartBefore (trimStart p))
+    ]
+
+unfoldable pub fractionsFrom : ℕ → Done → List ℕ → List ℕ → List ℕ → Option (List ℕ)
 unfolding slash
-fractionsFrom skip p o [] = some (reverse o)
-fractionsFrom (suc skip) p o (x ∷ s) = fractionsFrom skip (x ∷ p) o s
-fractionsFrom zero p o (x ∷ s) =
+fractionsFrom skip done p o [] = some (reverse o)
+fractionsFrom (suc skip) done p o (x ∷ s) = fractionsFrom skip done (x ∷ p) o s
+fractionsFrom zero done p o (x ∷ s) =
     elim (is "/" x) [
-      | true ↦ elim (slash p o s) [ none ↦ none | some t ↦ fractionsFrom (t .skip) (x ∷ p) (t .written) s ]
-      | false ↦ fractionsFrom 0 (x ∷ p) (x ∷ o) s
+      | true ↦ elim (slash done p o s) [ none ↦ none | some t ↦ fractionsFrom (t .skip) (t .done) (x ∷ p) (t .written) s ]
+      | false ↦ fractionsFrom 0 done (x ∷ p) (x ∷ o) s
     ]
 
 unfoldable pub convertRegularFractions : List ℕ → Option (List ℕ)
 unfolding fractionsFrom
-convertRegularFractions s = fractionsFrom 0 [] [] s
+convertRegularFractions s = fractionsFrom 0 nothingDone [] [] s
 
 -- ---- convert_fractions: rounds until nothing changes
 abbrev pub mostRounds : ℕ

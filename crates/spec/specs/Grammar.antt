@@ -1,4 +1,5 @@
--- Plain formulas: document 01's grammar, rule by rule, and what each rule is typed as, prints and counts. Assumes nothing.
+-- Plain formulas: document 01's grammar, rule by rule, and what each rule is typed as, prints and counts. That a numerator may hold slashes is document
+-- 02's A4. Assumes nothing.
 --     Sum, Product, Factor, Operand, Script, Atom    the rules
 --     proper                                         what the rules ask besides
 --     text, latex, atoms                             the formula, its LaTeX, and the count that the plain check gives
@@ -75,10 +76,6 @@ abbrev mutual
   slashlessFactor (fraction n d) = false
   slashlessFactor (group s) = slashless s
 
-  pub slashlessOperand : Operand → Bool
-  slashlessOperand (atom a) = true
-  slashlessOperand (enclosed s) = slashless s
-
   pub slashlessScript : Script → Bool
   slashlessScript bare = true
   slashlessScript (symbol c e) = true
@@ -124,7 +121,7 @@ loneAtom (product p) = loneProduct p
 loneAtom (plus p s) = false
 loneAtom (minus p s) = false
 
--- the numerator holds no slash; an operand's sum isn't a lone atom; in a script no script occurs
+-- an operand's sum isn't a lone atom; in a script no script occurs
 abbrev mutual
   pub proper : Sum → Bool
   proper (product p) = properProduct p
@@ -137,7 +134,7 @@ abbrev mutual
 
   pub properFactor : Factor → Bool
   properFactor (scripted a l h) = properScript l && properScript h
-  properFactor (fraction n d) = slashlessOperand n && (properOperand n && properOperand d)
+  properFactor (fraction n d) = properOperand n && properOperand d
   properFactor (group s) = proper s
 
   pub properOperand : Operand → Bool
@@ -247,30 +244,30 @@ unfoldable mutual
   scriptAtoms (symbol c e) = 0
   scriptAtoms (inner s) = atoms s
 
--- ---- how many fractions enclose one another, each in the denominator of the one around it: so many rounds change the text
+-- ---- how many fractions stand one within another: so many rounds change the text
 unfoldable mutual
-  pub depth : Sum → ℕ
-  depth (product p) = productDepth p
-  depth (plus p s) = max (productDepth p) (depth s)
-  depth (minus p s) = max (productDepth p) (depth s)
+  pub height : Sum → ℕ
+  height (product p) = productHeight p
+  height (plus p s) = max (productHeight p) (height s)
+  height (minus p s) = max (productHeight p) (height s)
 
-  pub productDepth : Product → ℕ
-  productDepth (factor f) = factorDepth f
-  productDepth (beside f p) = max (factorDepth f) (productDepth p)
+  pub productHeight : Product → ℕ
+  productHeight (factor f) = factorHeight f
+  productHeight (beside f p) = max (factorHeight f) (productHeight p)
 
-  pub factorDepth : Factor → ℕ
-  factorDepth (scripted a l h) = max (scriptDepth l) (scriptDepth h)
-  factorDepth (fraction n d) = suc (operandDepth d)
-  factorDepth (group s) = depth s
+  pub factorHeight : Factor → ℕ
+  factorHeight (scripted a l h) = max (scriptHeight l) (scriptHeight h)
+  factorHeight (fraction n d) = suc (max (operandHeight n) (operandHeight d))
+  factorHeight (group s) = height s
 
-  pub operandDepth : Operand → ℕ
-  operandDepth (atom a) = 0
-  operandDepth (enclosed s) = depth s
+  pub operandHeight : Operand → ℕ
+  operandHeight (atom a) = 0
+  operandHeight (enclosed s) = height s
 
-  pub scriptDepth : Script → ℕ
-  scriptDepth bare = 0
-  scriptDepth (symbol c e) = 0
-  scriptDepth (inner s) = depth s
+  pub scriptHeight : Script → ℕ
+  scriptHeight bare = 0
+  scriptHeight (symbol c e) = 0
+  scriptHeight (inner s) = height s
 
 -- ---- a plain text: the whole of it is one sum by these rules, and it has at most 4,096 bytes
 pub record Plain (s : List ℕ) : Type 0 where

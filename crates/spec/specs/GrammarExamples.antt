@@ -60,6 +60,12 @@ examples =
       printed = bytes "\\frac{a}{\\frac{b}{c}}";
       count = 3;
     }
+    ∷ record {
+      sum = alone (fraction (enclosed (alone (over a b))) (atom c));
+      typed = bytes "(a/b)/c";
+      printed = bytes "\\frac{\\frac{a}{b}}{c}";
+      count = 3;
+    }
     ∷ record { sum = alone (group (alone (over a b))); typed = bytes "(a/b)"; printed = bytes "\\left(\\frac{a}{b}\\right)"; count = 2 }
     ∷ record { sum = alone (group (alone (unscripted a))); typed = bytes "(a)"; printed = bytes "(a)"; count = 1 }
     ∷ record {
@@ -85,17 +91,16 @@ examples-counted : map (λ (e : Example). atoms (e .sum)) examples ≡ map (λ (
 unfolding atoms
 examples-counted = refl
 
--- ---- left out: a slash in a numerator, a lone atom in operand parentheses, a script in a script
+-- ---- left out: a lone atom in operand parentheses, a script in a script
 abbrev improper : List Sum
 improper =
-    alone (fraction (enclosed (alone (over a b))) (atom c))
-    ∷ alone (fraction (atom a) (enclosed (alone (unscripted b))))
+    alone (fraction (atom a) (enclosed (alone (unscripted b))))
     ∷ alone (scripted a (inner (alone (scripted b (symbol (code "1") refl) bare))) bare)
     ∷ []
 
-left-out : map proper improper ≡ false ∷ false ∷ false ∷ []
+left-out : map proper improper ≡ false ∷ false ∷ []
 left-out = refl
 
-left-out-typed : map text improper ≡ bytes "(a/b)/c" ∷ bytes "a/(b)" ∷ bytes "a_(b_1)" ∷ []
+left-out-typed : map text improper ≡ bytes "a/(b)" ∷ bytes "a_(b_1)" ∷ []
 unfolding text
 left-out-typed = refl

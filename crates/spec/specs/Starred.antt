@@ -1,4 +1,5 @@
--- Document 01's starred cases, with display on and a table of no records: one table, checked by computation. Assumes nothing.
+-- Document 01's starred cases, with display on and a table of no records: one table, checked by computation. The answer for the chain `a/b/c` is
+-- document 02's, which replaces document 01's. Assumes nothing.
 use mathlib.Core.Path.{_≡_, refl}
 use mathlib.Core.Bool.{true}
 use mathlib.Core.List.{List, [], _∷_, map}
@@ -11,7 +12,7 @@ starred =
     row "" ""
     ∷ row "a/(b/c)" "\\frac{a}{\\frac{b}{c}}"
     ∷ row "(a/b)" "\\left(\\frac{a}{b}\\right)"
-    ∷ row "a/b/c" "\\frac{a}{b\\frac{b}{c}"
+    ∷ row "a/b/c" "\\frac{\\frac{a}{b}}{c}"
     ∷ row "x^2/y" "x^\\frac{2}{y}"
     ∷ row "x_max" "x_{max}"
     ∷ row "x_alpha" "x_\\alpha"

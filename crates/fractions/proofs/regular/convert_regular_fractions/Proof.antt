@@ -1,28 +1,37 @@
--- `fractions::regular::convert_regular_fractions` meets its contract. The loop's invariant: i symbols have been read, and the rest of them finish what has been written. Assumes nothing.
+-- `fractions::regular::convert_regular_fractions` meets its contract. The loop's invariant: i symbols have been read, the marks say which slashes
+-- were left, and the rest of the symbols finish what has been written. Assumes nothing.
 use Rattle.fractions.specs.Slash.{slashed-ordered}
-use Rattle.fractions.specs.Turn.{round-copied, round-stays, round-barred, round-fraction, Converting, converting-none, converting-all, converting-refused, converting-kept, converting-fraction, slice-same, symbol-read, slashed-here, fraction-here}
+use Rattle.fractions.specs.Turn.{round-copied, round-stays, round-left, round-barred, round-fraction, Converting, converting-none, converting-all, converting-refused, converting-kept, converting-left, converting-fraction, slice-same, symbol-read, slashed-here, fraction-here}
 use Rattle.fractions.specs.Writing.{fraction-small}
 use Rattle.spec.specs.Fractions.{slash}
-use Rattle.text_symbols.specs.Parts.{part, length-part}
+use Rattle.fraction_numerators.specs.Script.{Scriptless}
+use Rattle.text_symbols.specs.Parts.{part, length-part, whole-part}
 use Rattle.text.specs.Writer.{appended-long}
 use Prim.Native.Nat.{_-_, _*_, _≤_}
 use borrow.Author.Needs.{needs}
 use lib.ListN.{length}
-use mathlib.Core.Path.{refl, sym, ap, _∙_, _≡_}
+use mathlib.Core.Bool.{false}
+use mathlib.Core.Path.{refl, sym, ap, _∙_, _≡_, subst}
 use native.Mathlib.Omega.{arith}
 use Rattle.fractions.proofs.regular.convert_regular_fractions.Statement.{statement}
 use Rattle.fractions.proofs.regular.convert_regular_fractions.Tie as tie
 
 abbrev Inv-loop : tie.InvT-loop
-Inv-loop work₀ from n to end count₀ i₀ work count i =
+Inv-loop work₀ from n to marks₀ end scripts rewritten₀ count₀ i₀ work marks rewritten count i =
     (i ≤ n) × (count ≤ 16400 * i) × (length work ≡ length work₀) × (length (part from n work₀) ≡ n)
-    × Converting (part from n work₀) work₀ work to count i
+    × Converting (part from n work₀) work₀ work marks to count rewritten i × (scripts ≡ false → Scriptless (part from n work₀))
 
 abbrev μ-loop : tie.MeasureT-loop
-μ-loop work₀ from n to end count₀ i₀ work count i = n - i
+μ-loop work₀ from n to marks₀ end scripts rewritten₀ count₀ i₀ work marks rewritten count i = n - i
 
 loop-holds : tie.Need-loop-holds Inv-loop μ-loop
-loop-holds c = (omega arith, omega arith, refl, length-part _ _ _ (c .before .pre .0 .source), converting-none _ _ _)
+loop-holds c =
+    let at-start : tie.Start Inv-loop μ-loop = search in
+    let a = at-start .args in
+    let all = length-part (a .from) (a .n) (a .work .now) (at-start .pre .0 .source) in
+    let at-has-script-group : tie.After-has-script-group Inv-loop μ-loop = search in
+    let whole = whole-part (a .from) (a .n) (a .work .now) in
+    (omega arith, omega arith, refl, all, converting-none _ _ (rw all (c .unmark .ensures)), λ e. subst Scriptless whole (at-has-script-group .has-script-group .ensures e))
 
 put-requires : tie.Need-put-requires Inv-loop μ-loop
 put-requires c κs = record { region = omega arith; small = omega arith }
@@ -42,7 +51,7 @@ loop-again c =
     let long = appended-long put in
     let n = put .counted in
     let other = then1 .if1 .taken in
-    (omega arith, omega arith, omega arith, inv .3, converting-kept (inv .4) (regions .region) (rw read at put) (round-copied s i (omega arith) (λ e. other (read ∙ e))))
+    (omega arith, omega arith, omega arith, inv .3, converting-kept (inv .4) (regions .region) (rw read at put) (round-copied s i (omega arith) (inv .4 .done) (λ e. other (read ∙ e))), inv .5)
 
 slash-at-requires : tie.Need-slash-at-requires Inv-loop μ-loop
 slash-at-requires c κs =
@@ -50,7 +59,8 @@ slash-at-requires c κs =
     let at-start : tie.Start Inv-loop μ-loop = search in
     let inv = at-loop .loop .inv in
     let n = ap (λ s. length s) (slice-same (inv .4) (at-start .pre .0)) in
-    (record { short = omega arith; within = omega arith }, omega arith)
+    let same = slice-same (inv .4) (at-start .pre .0) in
+    (record { short = omega arith; within = omega arith }, (omega arith, λ e. subst Scriptless (sym same) (inv .5 e)))
 
 put-converted-requires : tie.Need-put-converted-requires Inv-loop μ-loop
 put-converted-requires c κs =
@@ -105,7 +115,8 @@ loop-again-2 c =
       omega arith,
       omega arith,
       inv .3,
-      converting-fraction (inv .4) (regions .region) f here (round-fraction s i (omega arith) slash slashed (at-slash .slash .given .1) ord),
+      converting-fraction (inv .4) (regions .region) f here (round-fraction s i (omega arith) (inv .4 .done) slash slashed (at-slash .slash .given .1) ord),
+      inv .5,
     )
 
 put-requires-2 : tie.Need-put-requires-2 Inv-loop μ-loop
@@ -129,7 +140,30 @@ loop-again-3 c =
     let put = c .before .before .put2 .ensures in
     let long = appended-long put in
     let n = put .counted in
-    (omega arith, omega arith, omega arith, inv .3, converting-kept (inv .4) (regions .region) (rw read at put) (round-stays s i (omega arith) slash slashed (at-enum-told .enum-told .given .1)))
+    (omega arith, omega arith, omega arith, inv .3, converting-left (inv .4) (regions .region) (omega arith) (rw read at put) (round-left s i (omega arith) (inv .4 .done) slash slashed (at-enum-told .enum-told .given .1)), inv .5)
+
+put-requires-3 : tie.Need-put-requires-3 Inv-loop μ-loop
+put-requires-3 c κs = record { region = omega arith; small = omega arith }
+
+loop-again-4 : tie.Need-loop-again-4 Inv-loop μ-loop
+loop-again-4 c =
+    let at-enum-told2 : tie.After-enum-told2 Inv-loop μ-loop = search in
+    let at-slash-at : tie.After-slash-at Inv-loop μ-loop = search in
+    let else1 : tie.Else1 Inv-loop μ-loop = search in
+    let at-loop : tie.At-loop Inv-loop μ-loop = search in
+    let at-start : tie.Start Inv-loop μ-loop = search in
+    let a = at-start .args in
+    let regions = at-start .pre .0 in
+    let inv = at-loop .loop .inv in
+    let i = at-loop .loop .i in
+    let s = part (a .from) (a .n) (a .work .now) in
+    let read = symbol-read (inv .4) regions (omega arith) in
+    let slash = sym read ∙ else1 .if1 .left in
+    let slashed = slashed-here (inv .4) regions (at-slash-at .slash-at .ensures) in
+    let put = c .before .before .put3 .ensures in
+    let long = appended-long put in
+    let n = put .counted in
+    (omega arith, omega arith, omega arith, inv .3, converting-kept (inv .4) (regions .region) (rw read at put) (round-stays s i (omega arith) (inv .4 .done) slash slashed (at-enum-told2 .enum-told2 .given .1)), inv .5)
 
 returns : tie.Need-returns Inv-loop μ-loop
 returns c =
@@ -144,7 +178,7 @@ returns c =
     let read = symbol-read (inv .4) regions (omega arith) in
     let slash = sym read ∙ else1 .if1 .left in
     let slashed = slashed-here (inv .4) regions (c .before .before .slash-at .ensures) in
-    converting-refused (inv .4) (round-barred s i (omega arith) slash slashed (c .enum-told2 .given .1))
+    converting-refused (inv .4) (round-barred s i (omega arith) (inv .4 .done) slash slashed (c .enum-told3 .given .1))
 
 returns-2 : tie.Need-returns-2 Inv-loop μ-loop
 returns-2 c =
@@ -158,6 +192,11 @@ convert-regular-fractions-spec =
     Inv-loop
     μ-loop
     (λ c. omega arith)
+    (λ c. omega arith)
+    (λ c. omega arith)
+    (λ c. omega arith)
+    (λ c κs. search needs)
+    (λ c κs. search needs)
     loop-holds
     (λ c. omega arith)
     (λ c. omega arith)
@@ -174,10 +213,16 @@ convert-regular-fractions-spec =
     loop-less-2
     loop-again-2
     (λ c. search needs)
+    (λ c. omega arith)
     put-requires-2
     (λ c. omega arith)
     (λ c. omega arith)
     loop-again-3
+    (λ c. search needs)
+    put-requires-3
+    (λ c. omega arith)
+    (λ c. omega arith)
+    loop-again-4
     (λ c. search needs)
     (λ c. omega arith)
     returns

@@ -12,7 +12,9 @@ sub-to : tie.Need-sub-to
 sub-to c = let p = placed-fits (c .before .pre) refl in let q = placed-text (c .before .pre) refl in ⊎-elim (λ z. omega arith) (λ z. omega arith) (q .0)
 
 convert-regular-fractions-requires : tie.Need-convert-regular-fractions-requires
-convert-regular-fractions-requires c κs = (placed-regions (c .before .before .pre) refl, placed-text (c .before .before .pre) refl .1)
+convert-regular-fractions-requires c κs =
+    let at-start : tie.Start = search in
+    (placed-regions (at-start .pre) refl, placed-text (at-start .pre) refl .1)
 
 returns : tie.Need-returns
 returns c =

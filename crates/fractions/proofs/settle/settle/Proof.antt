@@ -10,16 +10,18 @@ use Rattle.fractions.proofs.settle.settle.Statement.{statement}
 use Rattle.fractions.proofs.settle.settle.Tie as tie
 
 abbrev Inv-loop : tie.InvT-loop
-Inv-loop work₀ from n at₀ len₀ k₀ work at len k = (k ≤ 64) × Going work₀ work from n at len k
+Inv-loop work₀ from n marks₀ at₀ len₀ k₀ work marks at len k = (k ≤ 64) × Going work₀ work from n at len k
 
 abbrev μ-loop : tie.MeasureT-loop
-μ-loop work₀ from n at₀ len₀ k₀ work at len k = 64 - k
+μ-loop work₀ from n marks₀ at₀ len₀ k₀ work marks at len k = 64 - k
 
 loop-holds : tie.Need-loop-holds Inv-loop μ-loop
 loop-holds c = (omega arith, going-none (c .before .pre))
 
 next-round-requires : tie.Need-next-round-requires Inv-loop μ-loop
-next-round-requires c κs = c .before .before .loop .inv .1 .ready
+next-round-requires c κs =
+    let at-loop : tie.At-loop Inv-loop μ-loop = search in
+    at-loop .loop .inv .1 .ready
 
 same-length : tie.Need-same-length Inv-loop μ-loop
 same-length c =
@@ -69,7 +71,9 @@ loop-again c =
     (omega arith, going-on (at-loop .loop .inv .1) (at-next-round .next-round .ensures) (omega arith) (c .before .before .round .given .1) (c .if1 .left))
 
 last-round-requires : tie.Need-last-round-requires Inv-loop μ-loop
-last-round-requires c κs = c .before .before .loop .inv .1 .ready
+last-round-requires c κs =
+    let at-loop : tie.At-loop Inv-loop μ-loop = search in
+    at-loop .loop .inv .1 .ready
 
 same-length-4 : tie.Need-same-length-4 Inv-loop μ-loop
 same-length-4 c =

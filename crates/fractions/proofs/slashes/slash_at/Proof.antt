@@ -1,5 +1,5 @@
 -- `fractions::slashes::slash_at` meets its contract, by what the searches answer. Assumes nothing.
-use Rattle.fractions.specs.Slash.{slash-inside, slash-bare, slash-barred, slash-alone, slash-converts}
+use Rattle.fractions.specs.Slash.{slash-inside, slash-bare, slash-left, slash-barred, slash-alone, slash-converts}
 use Rattle.fraction_operands.specs.Places.{ahead-found, ahead-is, ahead-nothing, behind-found, behind-is, behind-nothing}
 use borrow.Author.Needs.{needs}
 use mathlib.Core.Path.{sym, _∙_}
@@ -8,7 +8,7 @@ use Rattle.fractions.proofs.slashes.slash_at.Statement.{statement}
 use Rattle.fractions.proofs.slashes.slash_at.Tie as tie
 
 returns : tie.Need-returns
-returns c = slash-inside (c .before .before .before .args .s .now) (c .before .before .before .args .i) (sym (c .before .is-inside-subscript-context .ensures) ∙ c .if1 .taken)
+returns c = λ done kept. slash-inside (c .before .before .before .args .s .now) (c .before .before .before .args .i) done (sym (c .before .is-inside-script .ensures) ∙ c .if1 .taken)
 
 find-fraction-part-before-requires : tie.Need-find-fraction-part-before-requires
 find-fraction-part-before-requires c κs = let to = c .run-start .ensures .to in record { short = omega arith; within = omega arith }
@@ -16,14 +16,23 @@ find-fraction-part-before-requires c κs = let to = c .run-start .ensures .to in
 returns-2 : tie.Need-returns-2
 returns-2 c =
     let else1 : tie.Else1 = search in
-    let at-is-inside-subscript-context : tie.After-is-inside-subscript-context = search in
+    let at-is-inside-script : tie.After-is-inside-script = search in
     let at-start : tie.Start = search in
     let s = at-start .args .s .now in
     let i = at-start .args .i in
-    let outside = sym (at-is-inside-subscript-context .is-inside-subscript-context .ensures) ∙ else1 .if1 .left in
+    let outside = sym (at-is-inside-script .is-inside-script .ensures) ∙ else1 .if1 .left in
     let over = c .before .before .before .run-start .ensures in
     let num = c .before .before .find-fraction-part-before .ensures in
-    slash-bare s i outside over (behind-nothing num (c .enum-told .given .1))
+    λ done kept. slash-bare s i done outside over (behind-nothing num (c .enum-told .given .1))
+
+is-left-requires : tie.Need-is-left-requires
+is-left-requires c κs =
+    let after-start : tie.After-start = search in
+    let at-find-fraction-part-before : tie.After-find-fraction-part-before = search in
+    let at-run-start : tie.After-run-start = search in
+    let to = at-run-start .run-start .ensures .to in
+    let start = behind-found (at-find-fraction-part-before .find-fraction-part-before .ensures) (after-start .start .given .1) .to in
+    record { short = omega arith; within = omega arith }
 
 returns-3 : tie.Need-returns-3
 returns-3 c =
@@ -31,62 +40,84 @@ returns-3 c =
     let at-find-fraction-part-before : tie.After-find-fraction-part-before = search in
     let at-run-start : tie.After-run-start = search in
     let else1 : tie.Else1 = search in
-    let at-is-inside-subscript-context : tie.After-is-inside-subscript-context = search in
+    let at-is-inside-script : tie.After-is-inside-script = search in
     let at-start : tie.Start = search in
     let s = at-start .args .s .now in
     let i = at-start .args .i in
-    let outside = sym (at-is-inside-subscript-context .is-inside-subscript-context .ensures) ∙ else1 .if1 .left in
+    let outside = sym (at-is-inside-script .is-inside-script .ensures) ∙ else1 .if1 .left in
+    let over = at-run-start .run-start .ensures in
+    let num = at-find-fraction-part-before .find-fraction-part-before .ensures in
+    let at = after-start .start .given .1 in
+    λ done kept. slash-left s i done outside over (behind-found num at .to) (behind-is num at) (sym (c .before .is-left .ensures done kept) ∙ c .if2 .taken)
+
+returns-4 : tie.Need-returns-4
+returns-4 c =
+    let else2 : tie.Else2 = search in
+    let at-is-left : tie.After-is-left = search in
+    let after-start : tie.After-start = search in
+    let at-find-fraction-part-before : tie.After-find-fraction-part-before = search in
+    let at-run-start : tie.After-run-start = search in
+    let else1 : tie.Else1 = search in
+    let at-is-inside-script : tie.After-is-inside-script = search in
+    let at-start : tie.Start = search in
+    let s = at-start .args .s .now in
+    let i = at-start .args .i in
+    let outside = sym (at-is-inside-script .is-inside-script .ensures) ∙ else1 .if1 .left in
     let over = at-run-start .run-start .ensures in
     let num = at-find-fraction-part-before .find-fraction-part-before .ensures in
     let at = after-start .start .given .1 in
     let under = c .before .before .run-end .ensures in
-    let barred = sym (c .before .is-barred .ensures) ∙ c .if2 .taken in
-    slash-barred s i outside over under (behind-found num at .to) (behind-is num at) barred
-
-returns-4 : tie.Need-returns-4
-returns-4 c =
-    let at-is-barred : tie.After-is-barred = search in
-    let at-run-end : tie.After-run-end = search in
-    let after-start : tie.After-start = search in
-    let at-find-fraction-part-before : tie.After-find-fraction-part-before = search in
-    let at-run-start : tie.After-run-start = search in
-    let else1 : tie.Else1 = search in
-    let at-is-inside-subscript-context : tie.After-is-inside-subscript-context = search in
-    let at-start : tie.Start = search in
-    let s = at-start .args .s .now in
-    let i = at-start .args .i in
-    let outside = sym (at-is-inside-subscript-context .is-inside-subscript-context .ensures) ∙ else1 .if1 .left in
-    let over = at-run-start .run-start .ensures in
-    let num = at-find-fraction-part-before .find-fraction-part-before .ensures in
-    let at = after-start .start .given .1 in
-    let under = at-run-end .run-end .ensures in
-    let free = sym (at-is-barred .is-barred .ensures) ∙ c .before .before .before .if2 .left in
-    let none = ahead-nothing (c .before .before .find-fraction-part-after .ensures) (c .enum-told2 .given .1) in
-    slash-alone s i outside over under (behind-found num at .to) (behind-is num at) free none
+    let barred = sym (c .before .is-barred .ensures) ∙ c .if3 .taken in
+    λ done kept. slash-barred s i done outside over (behind-found num at .to) (behind-is num at) (sym (at-is-left .is-left .ensures done kept) ∙ else2 .if2 .left) under barred
 
 returns-5 : tie.Need-returns-5
 returns-5 c =
-    let else2 : tie.Else2 = search in
     let at-is-barred : tie.After-is-barred = search in
     let at-run-end : tie.After-run-end = search in
+    let else2 : tie.Else2 = search in
+    let at-is-left : tie.After-is-left = search in
     let after-start : tie.After-start = search in
     let at-find-fraction-part-before : tie.After-find-fraction-part-before = search in
     let at-run-start : tie.After-run-start = search in
     let else1 : tie.Else1 = search in
-    let at-is-inside-subscript-context : tie.After-is-inside-subscript-context = search in
+    let at-is-inside-script : tie.After-is-inside-script = search in
     let at-start : tie.Start = search in
     let s = at-start .args .s .now in
     let i = at-start .args .i in
-    let outside = sym (at-is-inside-subscript-context .is-inside-subscript-context .ensures) ∙ else1 .if1 .left in
+    let outside = sym (at-is-inside-script .is-inside-script .ensures) ∙ else1 .if1 .left in
     let over = at-run-start .run-start .ensures in
     let num = at-find-fraction-part-before .find-fraction-part-before .ensures in
     let at = after-start .start .given .1 in
     let under = at-run-end .run-end .ensures in
-    let free = sym (at-is-barred .is-barred .ensures) ∙ else2 .if2 .left in
+    let free = sym (at-is-barred .is-barred .ensures) ∙ c .before .before .before .if3 .left in
+    let none = ahead-nothing (c .before .before .find-fraction-part-after .ensures) (c .enum-told2 .given .1) in
+    λ done kept. slash-alone s i done outside over (behind-found num at .to) (behind-is num at) (sym (at-is-left .is-left .ensures done kept) ∙ else2 .if2 .left) under free none
+
+returns-6 : tie.Need-returns-6
+returns-6 c =
+    let else3 : tie.Else3 = search in
+    let at-is-barred : tie.After-is-barred = search in
+    let at-run-end : tie.After-run-end = search in
+    let else2 : tie.Else2 = search in
+    let at-is-left : tie.After-is-left = search in
+    let after-start : tie.After-start = search in
+    let at-find-fraction-part-before : tie.After-find-fraction-part-before = search in
+    let at-run-start : tie.After-run-start = search in
+    let else1 : tie.Else1 = search in
+    let at-is-inside-script : tie.After-is-inside-script = search in
+    let at-start : tie.Start = search in
+    let s = at-start .args .s .now in
+    let i = at-start .args .i in
+    let outside = sym (at-is-inside-script .is-inside-script .ensures) ∙ else1 .if1 .left in
+    let over = at-run-start .run-start .ensures in
+    let num = at-find-fraction-part-before .find-fraction-part-before .ensures in
+    let at = after-start .start .given .1 in
+    let under = at-run-end .run-end .ensures in
+    let free = sym (at-is-barred .is-barred .ensures) ∙ else3 .if3 .left in
     let den = c .before .before .before .find-fraction-part-after .ensures in
     let to = c .before .end .given .1 in
     let end = ahead-found den to in
-    slash-converts s i outside over under (behind-found num at .to) (behind-is num at) free (omega arith) (end .from) (end .within) (ahead-is den to)
+    λ done kept. slash-converts s i done outside over (behind-found num at .to) (behind-is num at) (sym (at-is-left .is-left .ensures done kept) ∙ else2 .if2 .left) under free (omega arith) (end .from) (end .within) (ahead-is den to)
 
 pub slash-at-spec : {M : Type 1} → statement M
 slash-at-spec =
@@ -99,12 +130,14 @@ slash-at-spec =
     (λ c. search needs)
     (λ c. search needs)
     returns-2
-    (λ c. search needs)
-    (λ c κs. search needs)
-    (λ c κs. search needs)
+    is-left-requires
     returns-3
+    (λ c. search needs)
+    (λ c κs. search needs)
+    (λ c κs. search needs)
+    returns-4
     (λ c κs. search needs)
     (λ c. search needs)
     (λ c. search needs)
-    returns-4
-    returns-5)
+    returns-5
+    returns-6)
