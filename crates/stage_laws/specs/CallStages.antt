@@ -2,6 +2,7 @@
 -- Assumes nothing.
 --     callStages           the call rewritings in the Rust's order, each as it is and as the Rust has it
 --     somePasses           on the way some search passes over a parenthesis
+--     admitted-alike       calls come to the same if what follows their first tests does the same with the formula
 --     converted-as-rust    where none does, a call comes to what it comes to with the Rust's
 --     unquoted-as-rust     none does where the formula has no quote
 use mathlib.Core.Path.{_≡_, refl, sym, ap, ap₂, _∙_}
@@ -20,7 +21,7 @@ use Rattle.spec.specs.Quotes.{convertTextQuotes}
 use Rattle.spec.specs.Table.{Definition, definitions}
 use Rattle.spec.specs.Definitions.{applyDefinitionsOutsideText}
 use Rattle.spec.specs.Finish.{convertAlignment, dropThinSpaceAfterCommands}
-use Rattle.spec.specs.Pipeline.{mostFormula, leastWork, markSolidus, convertSyntax, typstToLatex, definitionsOr, readable, fitting, converted}
+use Rattle.spec.specs.Pipeline.{mostFormula, leastWork, markSolidus, convertSyntax, typstToLatex, definitionsOr, readable, admitted, fitting, converted}
 use Rattle.spec.specs.Laws.Booleans.{or-neither}
 use Rattle.spec.specs.Laws.Names.{same-refl}
 use Rattle.stage_laws.specs.Each.{Each, done, more, EachIf, nowhere, there, each-drop, each-find}
@@ -199,23 +200,25 @@ unfolding typstToLatex
 latex-as-rust ds display s e =
     ap (λ r. r then stage convertTextQuotes then applyDefinitionsOutsideText ds then convertSyntax display then stage convertAlignment then stage dropThinSpaceAfterCommands) (before-quotes-as-rust s e)
 
+pub admitted-alike : (formula table work : List ℕ) (f g : List ℕ → Result (List ℕ)) → f formula ≡ g formula → (admitted formula table work then f) ≡ (admitted formula table work then g)
+admitted-alike formula table work f g alike = go (ltb (length work) leastWork) (ltb mostFormula (length formula)) (any foreign formula) (definitions table)
+  where
+    through : Bool → Bool → Bool → Option (List Definition) → Result (List ℕ)
+    through a b c o = elim a [ true ↦ refused 4 | false ↦ elim b [ true ↦ refused 2 | false ↦ elim c [ true ↦ refused 1 | false ↦ readable formula o ] ] ]
+
+    go : (a b c : Bool) (o : Option (List Definition)) → (through a b c o then f) ≡ (through a b c o then g)
+    go true b c o = refl
+    go false true c o = refl
+    go false false true o = refl
+    go false false false none = refl
+    go false false false (some ds) = alike
+
 pub converted-as-rust :
     (formula table : List ℕ) (display : Bool) (work output : List ℕ) → somePasses callStages (stage markSolidus formula) ≡ false
     → converted formula table display work output ≡ convertedWithRustCalls formula table display work output
 unfolding converted
 converted-as-rust formula table display work output e =
-    ap (λ r. r then fitting output) (go (ltb (length work) leastWork) (ltb mostFormula (length formula)) (any foreign formula) (definitions table))
-  where
-    go : (a b c : Bool) (o : Option (List Definition))
-        → (elim a as (λ _. Result (List ℕ)) [ true ↦ refused 4 | false ↦ elim b as (λ _. Result (List ℕ)) [ true ↦ refused 2 | false ↦ elim c as (λ _. Result (List ℕ)) [ true ↦ refused 1 | false ↦ readable formula o ] ] ]
-        then typstToLatex (definitionsOr table) display)
-        ≡ (elim a as (λ _. Result (List ℕ)) [ true ↦ refused 4 | false ↦ elim b as (λ _. Result (List ℕ)) [ true ↦ refused 2 | false ↦ elim c as (λ _. Result (List ℕ)) [ true ↦ refused 1 | false ↦ readable formula o ] ] ]
-        then latexWithRustCalls (definitionsOr table) display)
-    go true b c o = refl
-    go false true c o = refl
-    go false false true o = refl
-    go false false false none = refl
-    go false false false (some ds) = latex-as-rust (definitionsOr table) display formula e
+    ap (λ r. r then fitting output) (admitted-alike formula table work (typstToLatex (definitionsOr table) display) (latexWithRustCalls (definitionsOr table) display) (latex-as-rust (definitionsOr table) display formula e))
 
 each-unquoted : (s : List ℕ) → any (is "\"") s ≡ false → Each unquoted s
 each-unquoted [] e = done

@@ -12,3 +12,11 @@ pub mod TablesExample
 pub mod RustCalls
 pub mod PassedOver
 pub mod CallStages
+pub mod RustFractions
+pub mod LeftSlashes
+pub mod LeftExample
+pub mod FractionStages
+pub mod OperandLengths
+pub mod Slashes
+pub mod RoundCourse
+pub mod Rewritings
