@@ -1,6 +1,6 @@
 //! The library against the judge, call by call: the answer, the count, the bytes, and what both buffers hold afterwards. What is
 //! accepted goes through `typst_to_latex` as a whole too: that of the test copy, and the unchanged one where it has one order only,
-//! loses no block, and no search of a call passes over a parenthesis.
+//! loses no block, no search of a call passes over a parenthesis, and no round leaves a slash.
 
 use super::cases::{hex, Recorded};
 use super::definitions::one_order;
@@ -104,13 +104,13 @@ fn called(case: &Case, salt: usize) -> Result<Answer, String> {
 }
 
 /// `typst_to_latex` as a whole: the test copy's, and the unchanged one where the table leaves it one order only, it loses no block,
-/// and no search of a call passes over a parenthesis.
+/// no search of a call passes over a parenthesis, and no round leaves a slash.
 fn whole(case: &Case) -> (Vec<u8>, Option<Vec<u8>>) {
     let records = refused_before_stages(case).expect("an accepted case");
     let formula = std::str::from_utf8(&case.formula).expect("only own bytes");
     let mut stages = Stages::new(STAGE_SYMBOLS);
     typst_to_latex(formula, &records, case.display, &mut stages).expect("an accepted case");
-    let unchanged = one_order(&records) && stages.lost.is_none() && !stages.passed_over;
+    let unchanged = one_order(&records) && stages.as_the_base();
     let map: HashMap<String, String> = records.into_iter().map(|Record { name, latex }| (name, latex)).collect();
     let copy = crate::changed::typst_to_latex(formula, &map, case.display).into_bytes();
     (copy, unchanged.then(|| crate::typst_to_latex(formula, &map, case.display).into_bytes()))

@@ -1,10 +1,11 @@
 //! The cross-check: the judge's answers against what the unchanged functions of `math_conv.rs` really do.
 
 use super::definitions::{one_order, DEFINITIONS_MARK};
+use super::fractions::ROUNDS;
 use super::judge::{self, refused_before_stages, typst_to_latex, Case, LostBlock, Stages, Trouble};
-use super::passing;
 use super::table::{self, Form};
 use super::words::WORDS_MARK;
+use super::{chains, grammar, passing};
 use std::collections::{BTreeMap, HashMap};
 use std::panic::{catch_unwind, AssertUnwindSafe};
 
@@ -19,7 +20,11 @@ pub struct Findings {
 
 impl Findings {
     fn count(&mut self, check: &str) {
-        *self.counts.entry(check.to_string()).or_insert(0) += 1;
+        self.add(check, 1);
+    }
+
+    fn add(&mut self, check: &str, times: usize) {
+        *self.counts.entry(check.to_string()).or_insert(0) += times;
     }
 
     fn exception(&mut self, check: &str, case: &Case) {
@@ -55,20 +60,22 @@ impl Findings {
 }
 
 /// What a function of the Rust gives, or None where it panics.
-fn unless_panic<T>(f: impl FnOnce() -> T) -> Option<T> {
+pub fn unless_panic<T>(f: impl FnOnce() -> T) -> Option<T> {
     catch_unwind(AssertUnwindSafe(f)).ok()
 }
 
-/// What the Rust is asked with: its definitions, whether the unchanged Rust has one order of them only, the block that it loses,
-/// and whether a call's search passes over a parenthesis, which the unchanged one would not. The test copy is always asked, the
-/// unchanged Rust where it has one order, loses no block and nothing is passed over.
+/// The most symbols to which an overgrown text is followed.
+pub const FOLLOWED: usize = 60_000;
+
+/// What the Rust is asked with: its definitions, whether the unchanged Rust has one order of them only, and what the stages noted. The
+/// test copy is always asked, the unchanged Rust where it has one order, loses no block, no search of a call passes over a parenthesis
+/// and no round leaves a slash.
 struct Asked<'a> {
     case: &'a Case,
     formula: &'a str,
     map: HashMap<String, String>,
     one_order: bool,
-    lost: Option<LostBlock>,
-    passed_over: bool,
+    stages: Stages,
 }
 
 pub fn check(case: &Case, findings: &mut Findings) {
@@ -88,17 +95,20 @@ pub fn check(case: &Case, findings: &mut Findings) {
     if stages.lost.is_some() && !stages.passed_over {
         findings.count("the base refuses 6");
     }
+    if records.is_empty() && case.display {
+        plain_formula(case, formula, converted.as_ref().ok(), findings);
+    }
     let overgrown = matches!(&converted, Err(trouble) if trouble.number == 5);
     if overgrown {
         // The same stages with more room must still be the Rust's.
         findings.count("5 overgrown");
-        (converted, stages) = run(60_000);
+        (converted, stages) = run(FOLLOWED);
     }
-    let Stages { lost, passed_over, .. } = stages;
-    let asked = Asked { case, formula, map, one_order: one_order(&records), lost, passed_over };
+    let asked = Asked { case, formula, map, one_order: one_order(&records), stages };
     findings.count(if asked.one_order { "one order only" } else { "several orders, asked of the test copy" });
     call_stages(&asked, findings);
     lost_block(&asked, findings);
+    rounds(&asked, findings);
     match converted {
         Ok(latex) if overgrown => same_text("overgrown, followed to its end", &asked, &latex, findings),
         Ok(latex) => {
@@ -116,6 +126,20 @@ pub fn check(case: &Case, findings: &mut Findings) {
             findings.count(&format!("{} on the way", trouble.number));
             check_trouble(&trouble, &asked, findings);
         }
+    }
+}
+
+/// A plain formula prints the LaTeX of its tree, unless more than 64 fractions stand one within another or it has more than 8,192 bytes.
+fn plain_formula(case: &Case, formula: &str, latex: Option<&String>, findings: &mut Findings) {
+    let Some(tree) = grammar::parse(formula) else { return };
+    let written = tree.latex();
+    let accepted = tree.nested_fractions() <= ROUNDS && written.len() <= judge::STAGE_SYMBOLS;
+    if latex != accepted.then_some(&written) {
+        findings.disagree("plain: not as its tree", case);
+    } else if accepted {
+        findings.count("plain: the LaTeX of its tree");
+    } else {
+        findings.count("plain: refused, more than 64 fractions one within another or too long a writing");
     }
 }
 
@@ -147,7 +171,7 @@ fn both_forms(case: &Case, findings: &mut Findings) {
 }
 
 fn same_text(what: &str, asked: &Asked, latex: &str, findings: &mut Findings) {
-    let Asked { case, formula, map, one_order, lost, passed_over } = asked;
+    let Asked { case, formula, map, one_order, stages } = asked;
     let copy = unless_panic(|| crate::changed::typst_to_latex(formula, map, case.display));
     let same = |rust: &Option<String>| rust.as_deref() == Some(latex);
     match copy {
@@ -155,7 +179,7 @@ fn same_text(what: &str, asked: &Asked, latex: &str, findings: &mut Findings) {
         copy if same(&copy) => findings.count(&format!("{what}: the test copy's bytes")),
         Some(_) => findings.disagree(&format!("{what}: other bytes than the test copy's"), case),
     }
-    if *one_order && lost.is_none() && !passed_over {
+    if *one_order && stages.as_the_base() {
         match unless_panic(|| crate::typst_to_latex(formula, map, case.display)) {
             None => findings.disagree(&format!("{what}: the Rust panics"), case),
             rust if same(&rust) => findings.count(&format!("{what}: the Rust's bytes")),
@@ -188,7 +212,7 @@ fn call_stages(asked: &Asked, findings: &mut Findings) {
     if let Some(wrong) = found.disagreement {
         return findings.disagree(&format!("calls: {wrong}"), asked.case);
     }
-    if asked.passed_over != (found.passing > 0) {
+    if asked.stages.passed_over != (found.passing > 0) {
         return findings.disagree("calls: passed over in one run only", asked.case);
     }
     findings.count(match (found.passing, found.other_text) {
@@ -198,12 +222,27 @@ fn call_stages(asked: &Asked, findings: &mut Findings) {
     });
 }
 
+/// The rounds one by one, from the text that entered them: where no slash is left, the unchanged round gives the same text.
+fn rounds(asked: &Asked, findings: &mut Findings) {
+    let Some(text) = &asked.stages.before_rounds else { return };
+    let found = chains::rounds(text);
+    if let Some(wrong) = found.disagreement {
+        return findings.disagree(&format!("rounds: {wrong}"), asked.case);
+    }
+    findings.add("rounds in which no slash is left: the unchanged round's text", found.nothing_left);
+    findings.add("rounds in which a slash is left: another text than the unchanged round's", found.other_text);
+    findings.add("rounds in which a slash is left: the unchanged round's text all the same", found.same_text);
+    if asked.stages.left {
+        findings.count("a round leaves a slash");
+    }
+}
+
 /// Where a block is lost, the unchanged function leaves the mark in its text.
 fn lost_block(asked: &Asked, findings: &mut Findings) {
-    let Asked { case, map, one_order, lost, .. } = asked;
-    match lost {
+    let Asked { case, map, one_order, stages, .. } = asked;
+    match &stages.lost {
         None => {}
-        Some(lost) if lost.mark == WORDS_MARK => lost_in_words(lost, case, findings),
+        Some(lost) if lost.mark == WORDS_MARK => lost_in_words(lost, asked, findings),
         Some(_) if !one_order => findings.count("a lost block: several orders, not asked"),
         Some(lost) => {
             if crate::apply_definitions_outside_text(&lost.text, map).contains(DEFINITIONS_MARK) {
@@ -216,12 +255,16 @@ fn lost_block(asked: &Asked, findings: &mut Findings) {
 }
 
 /// Behind the put-back of words other stages follow. Of these `lr` can panic (it would be 8), and a round, since a mark has three
-/// bytes: then `lr(` is spelled otherwise and display is off, which no stage up to the put-back notices.
-fn lost_in_words(lost: &LostBlock, case: &Case, findings: &mut Findings) {
-    match unless_panic(|| crate::convert_syntax(&lost.text, case.display)) {
-        Some(text) if text.contains(WORDS_MARK) => return findings.count("a lost block: words leave U+FFFD"),
-        Some(_) => findings.exception("a lost block: a later stage drops the mark", case),
-        None => findings.exception("a lost block: a later stage panics", case),
+/// bytes; and where a round leaves a slash, the unchanged rounds may go on for ever. Then `lr(` is spelled otherwise and display is off,
+/// which no stage up to the put-back notices.
+fn lost_in_words(lost: &LostBlock, asked: &Asked, findings: &mut Findings) {
+    let case = asked.case;
+    if !asked.stages.left {
+        match unless_panic(|| crate::convert_syntax(&lost.text, case.display)) {
+            Some(text) if text.contains(WORDS_MARK) => return findings.count("a lost block: words leave U+FFFD"),
+            Some(_) => findings.exception("a lost block: a later stage drops the mark", case),
+            None => findings.exception("a lost block: a later stage panics", case),
+        }
     }
     let without_lr = lost.text.replace("lr(", "zr(");
     match unless_panic(|| crate::convert_syntax(&without_lr, false)) {
@@ -232,11 +275,11 @@ fn lost_in_words(lost: &LostBlock, case: &Case, findings: &mut Findings) {
     }
 }
 
-/// The unchanged round still changes the text (or panics) when 64 rounds have.
+/// The test copy's round still changes the text (or panics) when 64 rounds have.
 fn unsettled(trouble: &Trouble, case: &Case, findings: &mut Findings) {
     let mut text = trouble.text.clone();
     for round in 1..=200 {
-        let Some(next) = unless_panic(|| crate::convert_regular_fractions(&text)) else {
+        let Some(next) = unless_panic(|| crate::changed::convert_regular_fractions(&text)) else {
             if round <= 64 {
                 findings.disagree("7: a panic before round 65", case);
             } else {
@@ -257,16 +300,16 @@ fn unsettled(trouble: &Trouble, case: &Case, findings: &mut Findings) {
             return findings.exception("7: above 1,000,000 bytes", case);
         }
     }
-    findings.exception("7: not settled after 200 rounds", case);
+    findings.count("7: not settled after 200 rounds");
 }
 
-/// The unchanged search gives another index than the one counted in symbols. That one is what the search gives when the
-/// mark is a symbol of one byte.
+/// The search of a denominator gives another index than the one counted in symbols. That one is what the search gives when the
+/// mark is a symbol of one byte. That the test copy's round does make this search is seen with such a mark too (`chains.rs`).
 fn barred_solidus(trouble: &Trouble, case: &Case, findings: &mut Findings) {
     let chars: Vec<char> = trouble.text.chars().collect();
-    let narrow: Vec<char> = chars.iter().map(|&c| if c == '\u{2044}' { '\u{1}' } else { c }).collect();
-    let rust = unless_panic(|| crate::find_fraction_part_after(&chars, trouble.at));
-    let in_symbols = crate::find_fraction_part_after(&narrow, trouble.at);
+    let narrow: Vec<char> = chains::narrow(&trouble.text).chars().collect();
+    let rust = unless_panic(|| crate::changed::find_fraction_part_after(&chars, trouble.at));
+    let in_symbols = crate::changed::find_fraction_part_after(&narrow, trouble.at);
     let past_the_end = matches!(rust, Some(Some((_, end))) if end > chars.len());
     if rust == Some(in_symbols) {
         findings.exception("9: the index is right by chance", case);

@@ -1,6 +1,7 @@
 //! The judge's commands. This file is a module below `math_conv.rs`, which is the crate's root (see oracle/build).
 
 mod cases;
+mod chains;
 #[cfg(feature = "library")]
 mod compare;
 mod crosscheck;
@@ -10,6 +11,7 @@ mod generate;
 #[cfg_attr(not(feature = "library"), allow(dead_code))]
 mod grammar;
 mod judge;
+pub mod left;
 mod lengths;
 mod long_tables;
 mod passing;

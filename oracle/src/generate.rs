@@ -6,8 +6,8 @@ use super::table::{record_bytes, Form};
 use super::{lengths, pieces, plain, tables, traps};
 use super::word_tables::{FUNCTION_MAPPINGS, GREEK_LETTERS, OPERATOR_REPLACEMENTS, WORD_MAPPINGS};
 
-/// Number, name, and how often a generated case is of this family (0: written by hand, see traps.txt; of the last one a part is).
-pub const FAMILIES: [(u8, &str, usize); 30] = [
+/// Number, name, and how often a generated case is of this family (0: written by hand, see traps.txt; of the last two a part is).
+pub const FAMILIES: [(u8, &str, usize); 31] = [
     (0, "document", 0),
     (1, "readings", 0),
     (2, "order", 0),
@@ -38,6 +38,7 @@ pub const FAMILIES: [(u8, &str, usize); 30] = [
     (27, "enclosed", 700),
     (28, "quoted", 700),
     (29, "wide", 700),
+    (30, "chains", 1_200),
 ];
 
 pub fn family_number(name: &str) -> Option<u8> {
@@ -74,10 +75,7 @@ pub fn of_family(family: u8, rng: &mut Rng, depth: usize) -> Case {
         "blocks" => pieces::held(rng),
         "finishing" => finishing(rng, deep),
         "plain" => plain::plain(rng, deep),
-        "near plain" => {
-            let text = plain::plain(rng, deep);
-            pieces::mutate(rng, &text)
-        }
+        "near plain" => near_plain(rng, deep),
         "defined" => return defined(rng, tables::good, deep),
         "equal lengths" => return defined(rng, tables::of_one_length, deep),
         "enclosed" => return enclosed(rng, deep),
@@ -87,6 +85,7 @@ pub fn of_family(family: u8, rng: &mut Rng, depth: usize) -> Case {
         "long" => return long(rng),
         "growth" => return growth(rng),
         "rounds" => return rounds(rng),
+        "chains" => return chains(rng, deep),
         "two refusals" => return two_refusals(rng, Form::Narrow),
         "buffers" => return buffers(rng, deep),
         _ => unreachable!("written by hand"),
@@ -162,10 +161,20 @@ fn bytes(rng: &mut Rng, most: usize) -> Case {
     case
 }
 
+/// Some damage, or a bare chain.
+fn near_plain(rng: &mut Rng, deep: usize) -> String {
+    let text = plain::plain(rng, deep);
+    match rng.below(5) {
+        0 => format!("{text}/{}", plain::plain(rng, 1)),
+        1 => format!("({text})/b/{}", plain::plain(rng, 0)),
+        _ => pieces::mutate(rng, &text),
+    }
+}
+
 fn quotients(rng: &mut Rng, deep: usize) -> String {
     let mut text = pieces::fraction(rng, deep);
-    for _ in 0..rng.below(3) {
-        text.push_str(rng.pick(&["/", " + ", " ", "/(", "}/", ")/", "]/", "\\/"]));
+    for _ in 0..rng.below(4) {
+        text.push_str(rng.pick(&["/", " / ", " + ", " ", "/(", "}/", ")/", "]/", "\\/"]));
         text.push_str(&pieces::operand(rng, deep));
     }
     if rng.once_in(4) {
@@ -277,10 +286,46 @@ fn growth(rng: &mut Rng) -> Case {
 }
 
 fn rounds(rng: &mut Rng) -> Case {
-    let core = rng.pick(&["a/a", "a", "a/abs(b \\/ c)", "a/b/c", "{a/b}/c", "lr(|)"]);
-    let (way, slashes) = (rng.below(lengths::WAYS), rng.pick(&[2, 5, 30, 44, 45, 50, 61, 62, 63, 64, 65, 66]));
-    let formula = lengths::nested(way, slashes, core).into_bytes();
-    Case { formula, ..usual(rng, Vec::new()) }
+    let core = rng.pick(&["a/a", "a", "a/abs(b \\/ c)", "a/b/c", "{a/b}/c", "(a/b)/(c/d)", "lr(|)"]);
+    let slashes = rng.pick(&[2, 5, 30, 31, 32, 33, 44, 61, 62, 63, 64, 65, 66]);
+    let mut formula = lengths::nested(rng.below(lengths::WAYS), slashes, core);
+    if rng.once_in(3) {
+        // In several ways, one within the other.
+        let inner = lengths::nested(rng.below(lengths::WAYS), slashes / 2, core);
+        formula = lengths::nested(rng.below(lengths::WAYS), slashes - slashes / 2, &inner);
+    }
+    Case { formula: formula.into_bytes(), ..usual(rng, Vec::new()) }
+}
+
+/// Chains of slashes, some of them by definitions that bring slashes; seldom as many as a formula holds.
+fn chains(rng: &mut Rng, deep: usize) -> Case {
+    if rng.once_in(300) {
+        let all = lengths::long_chains();
+        let formula = all[rng.below(all.len())].clone().into_bytes();
+        return Case { formula, ..usual(rng, Vec::new()) };
+    }
+    let mut text = pieces::chain(rng, deep);
+    while rng.once_in(4) {
+        text.push_str(rng.pick(&[" + ", " - ", " ", ", ", "", "!", ")", "]", "}"]));
+        text.push_str(&pieces::chain(rng, deep));
+    }
+    if rng.once_in(8) {
+        text = pieces::mutate(rng, &text);
+    }
+    let display = !rng.once_in(12);
+    if !rng.once_in(6) {
+        return Case { display, ..usual(rng, text.into_bytes()) };
+    }
+    let mut latex = rng.pick(&["/", "a/", "/b", "/b/", "a/b", "(a/b)", "a/b/c", "a\\/b", "\\lvert"]).to_string();
+    if rng.once_in(3) {
+        latex = pieces::chain(rng, 1);
+    }
+    let table = record_bytes(b"ratio", latex.as_bytes());
+    for _ in 0..rng.between(1, 3) {
+        text.push_str(rng.pick(&["/", " ", "/ ", "(", " / ", "/("]));
+        text.push_str(rng.pick(&["ratio", "ratio/c", "ratio c", "ratio)/d", "ratio/ratio", "\\/ ratio"]));
+    }
+    Case { table, display, ..usual(rng, text.into_bytes()) }
 }
 
 /// A case that two numbers (or more) refuse; 6 stands for what the base refused.
@@ -322,9 +367,9 @@ pub fn merge_refusal(rng: &mut Rng, case: &mut Case, number: usize) {
             " over".repeat(9)
         }
         6 => rng.pick(&["\\text{a}\\text{b}0\\text{c}", "upright(a \"b\")", "\\mathrm{x}0\\text{b}"]).to_string(),
-        7 => lengths::nested(0, 65, "a"),
+        7 => lengths::nested(rng.pick(&[0, 6, 9]), 65, "a"),
         8 => rng.pick(&["lr(|)", "lr([)"]).to_string(),
-        9 => rng.pick(&["a/abs(b \\/ c)", "a/(b/abs(c \\/ d))"]).to_string(),
+        9 => rng.pick(&["a/abs(b \\/ c)", "a/(b/abs(c \\/ d))", "a/b/abs(c \\/ d)"]).to_string(),
         _ => {
             case.output = rng.below(2);
             String::new()

@@ -1,4 +1,5 @@
-//! Plain formulas by document 01's grammar: the tree, its text, its LaTeX writing, its atom count, and a parser.
+//! Plain formulas by document 01's grammar, with slashes in numerators too (A4): the tree, its text, its LaTeX writing, its atom count,
+//! and a parser.
 //!
 //! Nothing here knows how a formula is converted. The parser splits a text at its outermost signs, spaces, slashes and
 //! script marks, and asks of the tree what the rules ask besides.
@@ -48,7 +49,7 @@ impl Sum {
         self.others.is_empty() && matches!(self.first[..], [Factor::Scripted(_, None, None)])
     }
 
-    pub fn has_slash(&self) -> bool {
+    fn has_slash(&self) -> bool {
         self.text().contains('/')
     }
 
@@ -135,10 +136,6 @@ impl Factor {
 }
 
 impl Operand {
-    pub fn has_slash(&self) -> bool {
-        self.text().contains('/')
-    }
-
     fn atoms(&self) -> usize {
         match self {
             Operand::Atom(_) => 1,
@@ -252,8 +249,7 @@ fn product(text: &str) -> Option<Product> {
 
 fn factor(text: &str) -> Option<Factor> {
     if let Some(at) = outermost(text, "/").next() {
-        let (numerator, denominator) = (operand(&text[..at])?, operand(&text[at + 1..])?);
-        return (!numerator.has_slash()).then_some(Factor::Fraction(numerator, denominator));
+        return Some(Factor::Fraction(operand(&text[..at])?, operand(&text[at + 1..])?));
     }
     match enclosed(text) {
         Some(inner) => Some(Factor::Group(sum(inner)?)),

@@ -63,18 +63,26 @@ pub struct LostBlock {
     pub text: String,
 }
 
-/// The limit on a stage's finished text, the lengths met so far, where the base refused 6, and whether a closing search passed over
-/// a parenthesis, which the base does not.
+/// The limit on a stage's finished text, the lengths met so far, where the base refused 6, and what the base does not: whether a
+/// closing search passed over a parenthesis, and whether a round left a slash. And the text that entered the rounds.
 pub struct Stages {
     limit: usize,
     pub lengths: Vec<(String, usize)>,
     pub lost: Option<LostBlock>,
     pub passed_over: bool,
+    pub left: bool,
+    pub before_rounds: Option<String>,
 }
 
 impl Stages {
     pub fn new(limit: usize) -> Self {
-        Stages { limit, lengths: Vec::new(), lost: None, passed_over: false }
+        Stages { limit, lengths: Vec::new(), lost: None, passed_over: false, left: false, before_rounds: None }
+    }
+
+    /// Whether the unchanged Rust gives the same text, if its definitions have one order only: it loses no block, no search passed over
+    /// a parenthesis, and no round left a slash.
+    pub fn as_the_base(&self) -> bool {
+        self.lost.is_none() && !self.passed_over && !self.left
     }
 
     /// Only the first loss counts: behind it the unchanged Rust has another text.

@@ -23,7 +23,7 @@ const fn late(stage: &'static str, head: &'static str, piece: &'static str, tail
     Growth { stage, head, piece, tail, pumped: true }
 }
 
-pub const GROWTHS: [Growth; 71] = [
+pub const GROWTHS: [Growth; 76] = [
     early("op", "", "op()", ""),
     early("cases", "cases(", "a,", "a)"),
     early("attach", "", "op()op()op()op()attach(,b:c)", ""),
@@ -105,6 +105,12 @@ pub const GROWTHS: [Growth; 71] = [
     early("op", "", "op(\")\")", ""),
     early("cases", "cases(", "\",)\",", "a)"),
     early("floor(", "", "floor(\"(\")", ""),
+    // Slashes that are left for the next round. What is left meets 9 only in the next one, behind 5.
+    late("round 2", "", "a/b/c+", ""),
+    late("round 2", "", "(a/b)/c+", ""),
+    late("round 3", "", "a/b/c/d+", ""),
+    late("round 1", "", "a/b+", "+ a/b/abs(c \\/ d)"),
+    late("round 3", "", "(a/(b/c))/d+", ""),
 ];
 
 const PUMPS: usize = 31;
@@ -213,9 +219,9 @@ pub fn many_quotes() -> Vec<String> {
     formulas
 }
 
-/// Ways to nest a fraction in another: the first six in the denominator, a round for each; the others in the numerator,
-/// where the text also grows with every round.
-const NESTINGS: [(&str, &str); 9] = [
+/// Ways to nest a fraction in another, a round for each slash: the first six in the denominator, the next three in the numerator, then
+/// chains, the last of which have a slash as numerator; the others have two slashes a level.
+const NESTINGS: [(&str, &str); 18] = [
     ("a/(", ")"),
     ("a/{", "}"),
     ("a/b^{", "}"),
@@ -225,8 +231,58 @@ const NESTINGS: [(&str, &str); 9] = [
     ("(", "/b)"),
     ("{", "/b}"),
     ("[", "/b]"),
+    ("", "/b"),
+    ("", " / (b)"),
+    ("", "!/b"),
+    ("{/", ""),
+    ("//", ""),
+    ("(", "/b)/c"),
+    ("(a/", ")/b"),
+    ("a/(", "/b)"),
+    ("(", "/(c/d))"),
 ];
 pub const WAYS: usize = NESTINGS.len();
+
+/// From this way on a level has two slashes.
+pub const TWO_SLASHES: usize = 14;
+
+/// Formulas of 4,096 bytes or nearly so, all of slashes that rounds leave: 7 refuses the chains, 5 those that grow too fast, in the first
+/// round or in a later one.
+pub fn long_chains() -> Vec<String> {
+    let around = |open: &str, times: usize, core: &str, close: &str| open.repeat(times) + core + &close.repeat(times);
+    vec![
+        "a/".repeat(2_047) + "b",
+        "a / ".repeat(1_023) + "b",
+        "/a".repeat(2_048),
+        "x^2/".repeat(1_023) + "y",
+        "f(x)/".repeat(819) + "y",
+        "a!/".repeat(1_365) + "b",
+        "a/-b/".repeat(819) + "c",
+        "a//".repeat(1_365) + "b",
+        "(a/b)/".repeat(682) + "c",
+        "(a/b) /".repeat(585) + "c",
+        "a/(b/c)/".repeat(511) + "d",
+        "a/b/c ".repeat(682),
+        "a/b/c + ".repeat(512),
+        "a/b/c/d/e + ".repeat(341),
+        "(a/b)/c ".repeat(512),
+        around("(", 1_023, "a", "/b)"),
+        around("(", 1_365, "a/b", ")"),
+        around("[", 1_023, "a", "/b]"),
+        around("{", 1_023, "a", "/b}"),
+        around("a/(", 1_023, "a", ")"),
+        around("(a/", 682, "a", ")/b"),
+        around("a/(", 682, "a", "/b)"),
+        around("a/(", 64, "a", ")") + &"/b".repeat(64),
+        around("a/(", 63, "a/b", ")") + &"/b".repeat(64),
+        format!("a/b{}/c{}/d", " ".repeat(2_000), "\n".repeat(2_000)),
+        format!("a/b/{}c/d", "\t".repeat(4_000)),
+        format!("a/b/{}", "/".repeat(4_000)),
+        "}a/{".repeat(1_024),
+        "}/a{}".repeat(819),
+        "/a}".repeat(1_365),
+    ]
+}
 
 /// Nested fractions with this many slashes around `core`.
 pub fn nested(way: usize, slashes: usize, core: &str) -> String {

@@ -78,7 +78,9 @@ pub fn expression(rng: &mut Rng, depth: usize) -> String {
         expression(rng, depth)
     };
     match rng.below(24) {
-        0 | 1 => fraction(rng, depth),
+        0 => fraction(rng, depth),
+        1 if rng.once_in(3) => chain(rng, depth),
+        1 => fraction(rng, depth),
         2 => format!("({})", deeper(rng)),
         3 => format!("({}{}{})", deeper(rng), joint(rng), deeper(rng)),
         4 => format!("{}_{}", atom(rng), script(rng, depth)),
@@ -137,6 +139,57 @@ pub fn operand(rng: &mut Rng, depth: usize) -> String {
 pub fn fraction(rng: &mut Rng, depth: usize) -> String {
     let slash = rng.pick(&["/", "/", "/", " / ", "/ ", " /", "\\/", "//"]);
     format!("{}{slash}{}", operand(rng, depth), operand(rng, depth))
+}
+
+/// Slashes in a row, so that a round leaves some of them (A4): behind each other, in numerators and denominators, with signs, calls and
+/// factorials between them, and not closed.
+pub fn chain(rng: &mut Rng, depth: usize) -> String {
+    const SLASHES: [&str; 14] =
+        ["/", "/", "/", "/", "/", "/", "/", " / ", "/ ", " /", "\t/\n", "/ \n\t ", "//", "/\\/"];
+    let mut text = link(rng, depth);
+    for _ in 0..rng.between(1, 4) {
+        text.push_str(rng.pick(&SLASHES));
+        text.push_str(&link(rng, depth));
+    }
+    if rng.once_in(4) {
+        const AROUND: [(&str, &str); 12] = [
+            ("(", ")"), ("[", "]"), ("{", "}"), ("f(", ")"), ("x_(", ")"), ("x^(", ")"), ("x_(y_(", "))"), ("sqrt(", ")"),
+            ("abs(", ")"), ("lr((", "))"), ("\"", "\""), ("(", "]"),
+        ];
+        let (open, close) = rng.pick(&AROUND);
+        text = format!("{open}{text}{close}{}{}", rng.pick(&SLASHES), link(rng, depth));
+    }
+    text
+}
+
+/// What stands between two slashes.
+fn link(rng: &mut Rng, depth: usize) -> String {
+    const SIGNS: [&str; 20] = [
+        "", " ", "-", "+", ",", "!", "^", "_", "'", "|", "=", ".", "\\", "&", "%", "-c", "+ c", "! c", " - ", "\\/",
+    ];
+    const ENDS: [&str; 16] =
+        ["!", "!!", "^2", "_1", "^(2)", "_(12)", "_1^2", "^(a/b)", "_(a/b)", "^-1", "'", "(x)", "[x]", "{x}", " c", " + c"];
+    const UNMATCHED: [&str; 14] =
+        ["(a", "a)", "[a", "a]", "{a", "a}", "}", "{", "a}b{c}", "a}b{c", ")(", "}{", "[}", "{]"];
+    const BARS: [&str; 8] = [
+        "abs(x)", "abs(x \\/ y)", "abs(x/y)", "abs(\\/)^2", "2abs(x \\/ y)", "\\lvert x \\/", "\\lvert \\/ \\rvert", "(abs(x \\/ y))",
+    ];
+    match rng.below(32) {
+        0 | 1 if depth > 0 => format!("({})", chain(rng, depth - 1)),
+        2 if depth > 0 => format!("({} + {})", atom(rng), chain(rng, depth - 1)),
+        3 if depth > 0 => format!("{}({})", letter(rng), chain(rng, depth - 1)),
+        4 if depth > 0 => format!("{}[{}]", rng.pick(&["", "x"]), chain(rng, depth - 1)),
+        5 if depth > 0 => format!("{}{{{}}}", rng.pick(&["", "x", "x_", "x^", "\\text"]), chain(rng, depth - 1)),
+        6 if depth > 0 => operand(rng, depth),
+        7 if depth > 0 => call(rng, depth),
+        8 | 9 => rng.pick(&SIGNS).to_string(),
+        10..=12 => letter(rng) + rng.pick(&ENDS),
+        13 => rng.pick(&UNMATCHED).to_string(),
+        14 => rng.pick(&BARS).to_string(),
+        15 => rng.pick(&["\\frac{a}{b}", "\"u\"", "a\\/b", "(a)(b)", "a b", "()", "(a)!", "(a)^2", "f(x)"]).to_string(),
+        16..=18 => atom(rng),
+        _ => letter(rng),
+    }
 }
 
 pub fn call(rng: &mut Rng, depth: usize) -> String {

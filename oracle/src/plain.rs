@@ -1,18 +1,17 @@
-//! Plain formulas by document 01's grammar, and formulas one step off it.
+//! Plain formulas by document 01's grammar, with slashes in numerators too (A4).
 
 use super::rng::Rng;
 use super::word_tables::GREEK_LETTERS;
 
-/// How deep parentheses may go, and whether scripts and slashes are allowed here.
+/// How deep parentheses may go, and whether scripts are allowed here.
 #[derive(Clone, Copy)]
 struct Room {
     depth: usize,
     scripts: bool,
-    slashes: bool,
 }
 
 pub fn plain(rng: &mut Rng, depth: usize) -> String {
-    sum(rng, Room { depth, scripts: true, slashes: true })
+    sum(rng, Room { depth, scripts: true })
 }
 
 fn sum(rng: &mut Rng, room: Room) -> String {
@@ -35,10 +34,7 @@ fn product(rng: &mut Rng, room: Room) -> String {
 
 fn factor(rng: &mut Rng, room: Room) -> String {
     match rng.below(6) {
-        0 | 1 if room.slashes => {
-            let numerator = operand(rng, Room { slashes: false, ..room });
-            format!("{numerator}/{}", operand(rng, room))
-        }
+        0 | 1 => format!("{}/{}", operand(rng, room), operand(rng, room)),
         2 if room.depth > 0 => format!("({})", sum(rng, inner(room))),
         _ => scripted(rng, room),
     }
@@ -70,8 +66,12 @@ fn operand(rng: &mut Rng, room: Room) -> String {
     if room.depth == 0 || rng.once_in(2) {
         return atom(rng);
     }
-    // A sum in parentheses that is a lone atom is no operand; join a second factor to be sure.
+    // A fraction alone is an operand too. A sum in parentheses that is a lone atom is none: join a second factor.
     let first = sum(rng, inner(room));
+    let lone_atom = first.chars().all(|c| c.is_ascii_alphanumeric());
+    if !lone_atom && rng.once_in(2) {
+        return format!("({first})");
+    }
     format!("({first}{}{})", rng.pick(&[" + ", " - ", " "]), product(rng, inner(room)))
 }
 

@@ -12,9 +12,9 @@ use std::sync::Mutex;
 const NESTED: usize = 64;
 
 /// What a nearly plain text is made of.
-const PARTS: [&str; 24] = [
+const PARTS: [&str; 28] = [
     "a", "b", "1", "23", " ", " ", " + ", " - ", "+", "-", "(", ")", "(", ")", "/", "/", "_", "^", "_(", "^(", "pi", "eta", "x",
-    "alpha",
+    "alpha", "(a/", ")/", "/(", "/b",
 ];
 
 fn text(rng: &mut Rng) -> String {
@@ -52,9 +52,18 @@ fn damaged(rng: &mut Rng, mut text: String) -> String {
 
 /// Fractions, parentheses or both within each other, around the limit of rounds and far above it.
 fn nested(rng: &mut Rng) -> String {
-    let (head, tail) = rng.pick(&[("a/(b + ", ")"), ("a/((", "))"), ("(", ")"), ("a/(b (1 - ", "))"), ("(x_1 + ", ")")]);
-    let levels = rng.pick(&[1, 10, 62, 63, 64, 65, 66, 100, 300]);
-    format!("{}a/{}{}", head.repeat(levels), rng.pick(&GREEK_LETTERS).0, tail.repeat(levels))
+    let ways = [
+        ("a/(b + ", ")"), ("a/((", "))"), ("(", ")"), ("a/(b (1 - ", "))"), ("(x_1 + ", ")"), ("(", ")/b"), ("(x - ", ")/2"),
+        ("((", " + 1) c)/b"), ("(1/b ", ")/(c/d)"), ("(a/(", "))/b"),
+    ];
+    // In one way, or in one that is drawn for each level.
+    let (one_way, mixed) = (rng.pick(&ways), rng.once_in(3));
+    let mut text = format!("a/{}", rng.pick(&GREEK_LETTERS).0);
+    for _ in 0..rng.pick(&[1, 10, 31, 32, 33, 62, 63, 64, 65, 66, 100, 300]) {
+        let (head, tail) = if mixed { rng.pick(&ways) } else { one_way };
+        text = format!("{head}{text}{tail}");
+    }
+    text
 }
 
 /// A sum of 4,090 to 4,100 bytes, mostly.

@@ -9,7 +9,7 @@ use super::table::{record_bytes, Form};
 use super::{lengths, long_tables, tables, traps};
 
 /// How many cases of each generated family, and how many bytes their formulas may have.
-const SHARES: [(&str, usize, usize); 17] = [
+const SHARES: [(&str, usize, usize); 18] = [
     ("names", 400, 100),
     ("expressions", 900, 110),
     ("soup", 700, 90),
@@ -27,6 +27,7 @@ const SHARES: [(&str, usize, usize); 17] = [
     ("enclosed", 400, 110),
     ("quoted", 400, 110),
     ("wide", 280, 110),
+    ("chains", 400, 60),
 ];
 
 struct Recorder {
@@ -190,19 +191,37 @@ fn limits(recorder: &mut Recorder) {
     for core in ["a/a", "a", "a/abs(b \\/ c)"] {
         for way in 0..lengths::WAYS {
             let counts: &[usize] = match way {
-                0 | 1 => &[1, 2, 62, 63, 64, 65, 66],
-                2..=5 => &[1, 2, 62, 63, 64, 65],
-                _ => &[2, 3, 40, 43, 47, 53],
+                0 | 1 | 6 | 9 => &[1, 2, 62, 63, 64, 65, 66],
+                2..lengths::TWO_SLASHES => &[1, 2, 62, 63, 64, 65],
+                _ => &[1, 2, 30, 31, 32, 33],
             };
             for &slashes in counts {
                 let mut case = roomy(&lengths::nested(way, slashes, core), &[], true);
                 // Of long answers, only that they are not too long.
-                case.output = if way > 1 && slashes > 30 { 7 * slashes } else { case.output };
+                case.output = if !matches!(way, 0 | 1 | 6 | 9) && slashes > 30 { 7 * slashes } else { case.output };
                 recorder.add("rounds", case);
             }
         }
     }
     recorder.add("rounds", roomy(&lengths::nested(0, 66, "a"), &[], false));
+    // Numerators in denominators and the other way round, and in chains: 62 to 66 rounds.
+    for (outer, inner) in [(0, 6), (6, 0), (9, 0), (0, 9), (9, 6), (6, 9), (1, 7), (4, 10), (8, 3)] {
+        for slashes in 29..=33 {
+            let formula = lengths::nested(outer, 32, &lengths::nested(inner, slashes, "a/a"));
+            recorder.add("rounds", roomy(&formula, &[], true));
+        }
+    }
+    // Bars at the end of a chain, which 9 meets in the round of their slash, unless 7 comes first.
+    for slashes in 62..=66 {
+        recorder.add("rounds", roomy(&("a/".repeat(slashes) + "abs(b \\/ c)"), &[], true));
+    }
+    // The first slash here is within a script: it is not left, and the chain behind it begins in the first round.
+    for slashes in 63..=65 {
+        recorder.add("rounds", roomy(&format!("x_(c/{{d_(}}/{{)}}{})", "/b".repeat(slashes)), &[], true));
+    }
+    for formula in lengths::long_chains() {
+        recorder.add("chains", Case { output: 8_000, ..roomy(&formula, &[], true) });
+    }
 }
 
 /// Every number alone, and every pair in both places; for 6, what the base refused.

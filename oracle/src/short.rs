@@ -1,7 +1,8 @@
 //! The list of all short plain formulas, with their atom counts and their LaTeX: what the program `plain_short` writes.
 //!
-//! The trees are built rule by rule from document 01's grammar, shorter parts first. Before the list is given out, the
-//! parser is run on every short text: it must find these trees and no others. And the Rust must print each as written here.
+//! The trees are built rule by rule from document 01's grammar, with slashes in numerators too (A4), shorter parts first. Before
+//! the list is given out, the parser is run on every short text: it must find these trees and no others. And the Rust must print each
+//! as written here. Both are asked of somewhat longer formulas too, which are not on the list: there numerators begin to hold slashes.
 
 use super::grammar::{parse, Factor, Operand, Product, Script, Sum};
 use super::judge::{judge, Answer, Case, STAGE_SYMBOLS, WORK_BYTES};
@@ -10,10 +11,12 @@ use std::collections::{BTreeSet, HashMap};
 /// In the order of the list.
 const SYMBOLS: &str = "ab1+-()/_^ ";
 const LONGEST: usize = 5;
+/// `((a/b))/c` has so many bytes.
+const LONGEST_ASKED: usize = 9;
 
 /// A line for each formula: the formula, its atoms, its LaTeX, with tabs between them; then the totals.
 pub fn list() -> String {
-    let formulas = formulas();
+    let formulas = formulas(LONGEST);
     let (mut texts, mut lines) = (0, String::new());
     let mut printed = BTreeSet::new();
     for text in (0..=LONGEST).flat_map(all_texts) {
@@ -22,12 +25,23 @@ pub fn list() -> String {
         assert_eq!(parse(&text).as_ref(), tree, "the parser and the rules agree on {text:?}");
         let Some(tree) = tree else { continue };
         let latex = tree.latex();
-        assert_eq!(judge(&case(&text)), Answer::Done(latex.clone().into_bytes()), "what the Rust prints for {text:?}");
         assert!(printed.insert(latex.clone()), "no other formula prints as {text:?}");
         lines += &format!("{text}\t{}\t{latex}\n", tree.atoms());
     }
     assert_eq!(printed.len(), formulas.len(), "each formula is one of the texts");
+    ask_all(&self::formulas(LONGEST_ASKED));
     format!("{lines}{texts} texts, {} plain, {} different LaTeX texts\n", formulas.len(), printed.len())
+}
+
+/// Each text has this tree by the parser too, prints as written here, and as no other does.
+fn ask_all(formulas: &HashMap<String, Sum>) {
+    let mut printed = BTreeSet::new();
+    for (text, tree) in formulas {
+        assert_eq!(parse(text).as_ref(), Some(tree), "the parser and the rules agree on {text:?}");
+        let latex = tree.latex();
+        assert_eq!(judge(&case(text)), Answer::Done(latex.clone().into_bytes()), "what the Rust prints for {text:?}");
+        assert!(printed.insert(latex), "no other formula prints as {text:?}");
+    }
 }
 
 /// All texts of n symbols.
@@ -43,10 +57,10 @@ fn case(formula: &str) -> Case {
     Case { formula, table: Vec::new(), display: true, work: WORK_BYTES, output: STAGE_SYMBOLS }
 }
 
-/// The trees by their texts, of which no two are alike.
-fn formulas() -> HashMap<String, Sum> {
+/// The trees by their texts of up to so many bytes, of which no two are alike.
+fn formulas(longest: usize) -> HashMap<String, Sum> {
     let mut formulas = HashMap::new();
-    for n in 0..=LONGEST {
+    for n in 0..=longest {
         for sum in sums(n) {
             let text = sum.text();
             assert_eq!(text.len(), n);
@@ -75,7 +89,7 @@ fn products(n: usize) -> Vec<Product> {
 }
 
 fn factors(n: usize) -> Vec<Factor> {
-    let fractions = pairs(n, 1, operands, operands).into_iter().filter(|(numerator, _)| !numerator.has_slash());
+    let fractions = pairs(n, 1, operands, operands).into_iter();
     let mut factors: Vec<Factor> = fractions.map(|(numerator, denominator)| Factor::Fraction(numerator, denominator)).collect();
     factors.extend(enclosed(n).into_iter().map(Factor::Group));
     for (atom, (low, high)) in pairs(n, 0, atoms, |n| pairs(n, 0, optional_scripts, optional_scripts)) {

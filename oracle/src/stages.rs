@@ -1,6 +1,6 @@
 //! Functions of the Rust, each by itself, on lines of standard input: what the program `stage_lines` has to write. A line that
 //! begins with `#` is a heading, and begins the next section. The byte 01 stands for the solidus mark. The call rewritings
-//! and their searches are the test copy's (A8), the others are the Rust's own.
+//! and their searches are the test copy's (A8), the rounds of fractions the judge's (A4), the others are the Rust's own.
 
 use super::super as rust;
 use super::judge::{Stages, Trouble, STAGE_SYMBOLS};

@@ -48,6 +48,24 @@ fn may_pass_over(formula: &str) -> bool {
     }
 }
 
+/// Whether a round may leave a slash, which the Rust's does not (A4). It leaves none where each slash but the first has an operand
+/// before it that stands apart from other fractions.
+fn may_leave_a_slash(formula: &str) -> bool {
+    let slashes = formula.match_indices('/').filter(|&(at, _)| !formula[..at].ends_with('\\'));
+    slashes.skip(1).any(|(at, _)| !ends_apart(formula[..at].trim_end()))
+}
+
+/// Whether a text ends with a word or a sum in parentheses, of letters, digits, scripts and signs alone, behind a blank that no slash
+/// stands before.
+fn ends_apart(text: &str) -> bool {
+    let in_word = |c: char| c.is_ascii_alphanumeric() || "_^.".contains(c);
+    let before = match text.strip_suffix(')') {
+        Some(rest) => rest.trim_end_matches(|c| in_word(c) || " +-".contains(c)).strip_suffix('(').unwrap_or_default(),
+        None => text.trim_end_matches(in_word),
+    };
+    before.ends_with(' ') && before.len() < text.len() && !before.trim_end().ends_with('/')
+}
+
 impl Converters {
     fn ours(&mut self, formula: &str) -> Result<&[u8], jistranu::Refusal> {
         jistranu::convert(formula.as_bytes(), b"", true, &mut self.work, &mut self.output)
@@ -67,12 +85,13 @@ impl Converters {
     }
 
     /// All three must give the same LaTeX, unless the library refuses the text, the Rust loses a block, whose mark is then in its
-    /// LaTeX or makes it panic, or a parenthesis may be passed over. None where the Rust panics.
+    /// LaTeX or makes it panic, a parenthesis may be passed over, or a slash may be left. None where the Rust panics.
     fn compared(&mut self, formula: &str) -> Option<u8> {
         let as_is = unless_panic(|| self.as_is(formula));
         let kept = unless_panic(|| self.kept(formula));
         assert!(kept == as_is, "kept expressions change the answer to {formula:?}");
-        let rust = as_is.as_ref().filter(|latex| !latex.contains(['\u{FFFD}', '\u{FFFE}']) && !may_pass_over(formula));
+        let other = may_pass_over(formula) || may_leave_a_slash(formula);
+        let rust = as_is.as_ref().filter(|latex| !latex.contains(['\u{FFFD}', '\u{FFFE}']) && !other);
         let same = self.ours(formula).map(|latex| rust.is_none_or(|rust| rust.as_bytes() == latex));
         assert!(same != Ok(false), "another answer to {formula:?}");
         as_is.map(|_| self.refused(formula))
