@@ -4,7 +4,7 @@
  * may call it, each with buffers of its own.
  *
  * Measured: a conversion takes up to 0.8 MB of stack (0.4 MB without a table), a plain check up to 1.2 MB: 192 and 272 bytes for each
- * parenthesis that is open. Where none is, 5 KB and 1.5 KB. The word under the pointer takes less than 1 KB.
+ * parenthesis that is open. Where none is, 11 KB and 1.5 KB. The word under the pointer takes less than 1 KB.
  *
  * Pointers are never null. Where a length is 0, the pointer may be any other, as that of an empty string.
  * What a call writes (`work`, `output`, `count`, `atoms`, `defined`, `start`, `length`) overlaps nothing else that it is handed.
@@ -43,7 +43,7 @@ enum jistranu_answer {
     JISTRANU_NARROW_WORK = 4,    /* the work buffer has less than 32,768 bytes */
     JISTRANU_OVERGROWN = 5,      /* the text grows above 8,192 symbols on its way to LaTeX */
     JISTRANU_LOST_BLOCK = 6,     /* kept, so that the others keep their numbers; no call answers it */
-    JISTRANU_UNSETTLED = 7,      /* more than 64 fractions stand one within the other */
+    JISTRANU_UNSETTLED = 7,      /* more than 64 fractions stand one within the other, or in a chain of slashes */
     JISTRANU_BARE_DELIMITER = 8, /* lr encloses a delimiter and nothing else, as in lr(|) */
     JISTRANU_BARRED_SOLIDUS = 9, /* a denominator within bars holds an escaped slash, as in a/abs(b \/ c) */
     JISTRANU_SHORT_OUTPUT = 10,  /* the LaTeX is longer than the output buffer */

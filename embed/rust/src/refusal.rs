@@ -33,7 +33,7 @@ const ALL: [(Refusal, &str); 11] = [
     (Refusal::NarrowWork, "the work buffer has less than 32,768 bytes"),
     (Refusal::Overgrown, "the formula grows above 8,192 symbols on its way to LaTeX"),
     (Refusal::LostBlock, "a piece of quoted text would be lost; no call is refused by it"),
-    (Refusal::Unsettled, "more than 64 fractions stand one within the other"),
+    (Refusal::Unsettled, "more than 64 fractions stand one within the other, or in a chain of slashes"),
     (Refusal::BareDelimiter, "lr encloses a delimiter and nothing else, as in lr(|)"),
     (Refusal::BarredSolidus, "a denominator within bars holds an escaped slash, as in a/abs(b \\/ c)"),
     (Refusal::ShortOutput, "the LaTeX is longer than the output buffer"),

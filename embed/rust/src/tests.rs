@@ -54,6 +54,17 @@ fn quoted_text_goes_back_to_its_own_place() {
 }
 
 #[test]
+fn a_chain_of_slashes_groups_from_the_left() {
+    let none = HashMap::new();
+    let printed = |formula: &str| typst_to_latex(formula, &none, true);
+    assert_eq!(printed("a/b/c").as_deref(), Ok(r"\frac{\frac{a}{b}}{c}"));
+    assert_eq!(printed("(a/b)/c"), printed("a/b/c"));
+    assert_eq!(printed("a/b/c/d").as_deref(), Ok(r"\frac{\frac{\frac{a}{b}}{c}}{d}"));
+    assert_eq!(plain_check(b"(a/b)/c"), Some(3));
+    assert_eq!(plain_check(b"a/b/c"), None);
+}
+
+#[test]
 fn quoted_parentheses_close_no_call() {
     let none = HashMap::new();
     let printed = |formula: &str| typst_to_latex(formula, &none, true);
@@ -70,6 +81,7 @@ fn refuses_by_its_number() {
     assert_eq!(refused(&"a".repeat(FORMULA_BYTES + 1)), Refusal::LongFormula);
     assert_eq!(refused(&"op()".repeat(600)), Refusal::Overgrown);
     assert_eq!(refused(&("a/(".repeat(64) + "a/a" + &")".repeat(64))), Refusal::Unsettled);
+    assert_eq!(refused(&("a/".repeat(65) + "a")), Refusal::Unsettled);
     assert_eq!(refused("lr(|)"), Refusal::BareDelimiter);
     assert_eq!(refused("a/abs(b \\/ c)"), Refusal::BarredSolidus);
     let (mut work, mut output) = ([7; WORK_BYTES], [7; 1]);
