@@ -64,7 +64,7 @@ opens-none (x ∷ p) h e = rw (e, not-true (is "(" x && scriptSign (head p)) (an
 outside-groups : (d : ℕ) (p : List ℕ) → groupless p ≡ true → isInsideSubscriptContext d p ≡ false
 unfolding isInsideSubscriptContext
 outside-groups d [] h = refl
-outside-groups d (x ∷ p) h = go (sideOf (eqb x (code ")")) (eqb x (code "("))) refl d (λ k. outside-groups k p (and-right (not (is "(" x && scriptSign (head p))) (groupless p) h))
+outside-groups d (x ∷ p) h = go (sideOf (eqb x (code ")")) (eqb x (code "("))) refl d (λ k. outside-groups k p later)
   where
     later : groupless p ≡ true
     later = and-right (not (is "(" x && scriptSign (head p))) (groupless p) h

@@ -24,11 +24,11 @@ use Rattle.text.specs.Stage.{shown, Placed, Ready, Staged, placed-text, placed-
 use Rattle.text.specs.declared.Refusal.the-variants.{Overgrown, Unsettled, BarredSolidus}
 use Rattle.text.specs.declared.Progress.{Progress}
 use Rattle.text.specs.declared.Progress.the-variants.{Text, Refused}
-use Rattle.fractions.specs.declared.Outcome.{Outcome}
-use Rattle.fractions.specs.declared.Outcome.the-variants as Outcome
+use Rattle.fraction_round.specs.declared.Outcome.{Outcome}
+use Rattle.fraction_round.specs.declared.Outcome.the-variants as Outcome
 use Rattle.fractions.specs.declared.Round.{Round}
 use Rattle.fractions.specs.declared.Round.the-variants as Round
-use Rattle.fractions.specs.Turn.{outcomeLength, outcomeText, Rounded}
+use Rattle.fraction_round.specs.Turn.{outcomeLength, outcomeText, Rounded}
 
 -- ---- what a round makes of a text
 pub data NextText : Type 0 where
