@@ -13,9 +13,9 @@ use Rattle.entry_ends.specs.declared.Answer.{Answer}
 use Rattle.entry_ends.specs.declared.Answer.the-variants.{Done}
 
 pub outputs-apart :
-    {formula table work output work′ output′ formula₁ table₁ work₁ output₁ work₁′ output₁′ : List ℕ} {answer answer₁ : Answer} {n m : ℕ}
-    → Call formula table true work output (meaning answer) work′ output′
-    → Call formula₁ table₁ true work₁ output₁ (meaning answer₁) work₁′ output₁′
+    {formula table work output work′ output′ formula₁ table₁ work₁ output₁ work₁′ output₁′ : List ℕ} {field : ℕ} {answer answer₁ : Answer} {n m : ℕ}
+    → Call formula table true field work output (meaning answer) work′ output′
+    → Call formula₁ table₁ true field work₁ output₁ (meaning answer₁) work₁′ output₁′
     → answer ≡ Done n
     → answer₁ ≡ Done m
     → NoRecords table

@@ -1,4 +1,4 @@
--- Document 01's starred cases, of calls of the entry: the table is `starred` in crates/spec/specs/Starred.antt. Assumes nothing.
+-- Document 01's starred cases, of calls of the entry with all five commands tall: the table is `starred` in crates/spec/specs/Starred.antt. Assumes nothing.
 --     Gives            what a call answers and leaves, where it puts out a given LaTeX
 --     call-gives       so does every call on a formula that is admitted and converted to that LaTeX, if both buffers are long enough
 --     starred-calls    the whole table: every call on the formula of a row
@@ -12,6 +12,7 @@ use borrow.Author.Tests.{le-ltb}
 use Rattle.spec.specs.Symbols.{foreign, any}
 use Rattle.spec.specs.Result.{passed, _then_}
 use Rattle.spec.specs.Rows.{Row}
+use Rattle.spec.specs.Finish.{allTall}
 use Rattle.spec.specs.Pipeline.{mostFormula, leastWork, definitionsOr, checked, admitted, typstToLatex, fitting, converted, answerOf, outputAfter, workAfter, Call}
 use Rattle.spec.specs.Starred.{starred, starred-hold}
 use Rattle.plain_printing.specs.Calls.{NoRecords, none-or}
@@ -30,22 +31,22 @@ means-done (Refused why) e = cc
 
 -- ---- a call on one formula
 module _ (formula latex : List ℕ) (short : ltb mostFormula (length formula) ≡ false) (native : any foreign formula ≡ false)
-    (converts : typstToLatex [] true formula ≡ passed latex) (table : List ℕ) (empty : NoRecords table) (work output : List ℕ) (wide : leastWork ≤ length work) (room : length latex ≤ length output) where
-  admits : admitted formula table work ≡ passed formula
+    (converts : typstToLatex [] true allTall formula ≡ passed latex) (table : List ℕ) (empty : NoRecords table) (work output : List ℕ) (wide : leastWork ≤ length work) (room : length latex ≤ length output) where
+  admits : admitted formula table allTall work ≡ passed formula
   admits = rw (le-ltb (length work) leastWork wide, admitted, short, checked, native, empty)
 
   fits : fitting output latex ≡ passed latex
   fits = rw (le-ltb (length output) (length latex) room)
 
-  gives : converted formula table true work output ≡ passed latex
+  gives : converted formula table true allTall work output ≡ passed latex
   unfolding converted
   gives =
-      ap (λ r. r then typstToLatex (definitionsOr table) true then fitting output) admits
-      ∙ ap (λ ds. typstToLatex ds true formula then fitting output) (none-or table empty)
+      ap (λ r. r then typstToLatex (definitionsOr table) true allTall then fitting output) admits
+      ∙ ap (λ ds. typstToLatex ds true allTall formula then fitting output) (none-or table empty)
       ∙ ap (λ r. r then fitting output) converts
       ∙ fits
 
-  pub call-gives : {answer : Answer} {work′ output′ : List ℕ} → Call formula table true work output (meaning answer) work′ output′ → Gives latex work output answer work′ output′
+  pub call-gives : {answer : Answer} {work′ output′ : List ℕ} → Call formula table true allTall work output (meaning answer) work′ output′ → Gives latex work output answer work′ output′
   call-gives {answer} c =
       record {
         answers = means-done answer (c .answers ∙ ap answerOf gives);
@@ -81,8 +82,8 @@ starred-native = refl
 
 pub starred-calls : {r : Row} → r ∈ starred
     → {table work output work′ output′ : List ℕ} {answer : Answer} → NoRecords table → leastWork ≤ length work → length (r .latex) ≤ length output
-    → Call (r .typst) table true work output (meaning answer) work′ output′
+    → Call (r .typst) table true allTall work output (meaning answer) work′ output′
     → Gives (r .latex) work output answer work′ output′
 starred-calls {r} m {table} {work} {output} empty wide room =
     call-gives (r .typst) (r .latex) (at-row overlong never m starred-short) (at-row alien never m starred-native)
-    (at-row (λ (r : Row). typstToLatex [] true (r .typst)) (λ (r : Row). passed (r .latex)) m starred-hold) table empty work output wide room
+    (at-row (λ (r : Row). typstToLatex [] true allTall (r .typst)) (λ (r : Row). passed (r .latex)) m starred-hold) table empty work output wide room

@@ -28,8 +28,8 @@ verdictOf formula (Failed why) = refused (number why)
 pub record Checks (formula table : List ℕ) (v : Verdict) : Type 0 where
   pub answers : verdictOf formula v ≡ checked formula table
 
-pub record Admits (formula table w w′ : List ℕ) (p : Progress) : Type 0 where
-  pub shows : shown p w′ ≡ admitted formula table w
+pub record Admits (formula table : List ℕ) (field : ℕ) (w w′ : List ℕ) (p : Progress) : Type 0 where
+  pub shows : shown p w′ ≡ admitted formula table field w
   pub ready : Ready w′ p
   pub long : length w′ ≡ length w
 

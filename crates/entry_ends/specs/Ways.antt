@@ -1,6 +1,6 @@
 -- Each way through the two ends of the entry, by what their functions ensure. Assumes nothing.
 --     checks-long, ..          each way through the checks
---     admits-refused, -text    each way through the admission
+--     admits-high, ..          each way through the admission
 --     puts-refused, ..         each way through the last step
 use mathlib.Core.Path.{_≡_, refl, sym, ap, _∙_}
 use mathlib.Core.Bool.{Bool, true, false, false≢true, true≢false}
@@ -17,13 +17,14 @@ use borrow.Author.Tests.{lt-ltb, le-ltb}
 use Rattle.spec.specs.Symbols.{foreign, any}
 use Rattle.spec.specs.Result.{Result, passed, refused, _then_}
 use Rattle.spec.specs.Table.{Definition, definitions}
+use Rattle.spec.specs.Finish.{allTall}
 use Rattle.spec.specs.Pipeline.{mostFormula, leastWork, readable, checked, admitted, fitting, answerOf, outputAfter}
 use Rattle.text_symbols.specs.Parts.{part, length-part}
 use Rattle.text.specs.Stage.{shown, Ready, placed-fits}
 use Rattle.text.specs.declared.Progress.{Progress}
 use Rattle.text.specs.declared.Progress.the-variants.{Text, Refused}
 use Rattle.text.specs.declared.Refusal.{Refusal}
-use Rattle.text.specs.declared.Refusal.the-variants.{ForeignByte, LongFormula, FaultyTable, ShortOutput}
+use Rattle.text.specs.declared.Refusal.the-variants.{ForeignByte, LongFormula, FaultyTable, ShortOutput, TallField}
 use Rattle.table.specs.Sound.{refused as isRefused}
 use Rattle.entry_ends.specs.declared.Answer.the-variants.{Done, Refused as RefusedBy}
 use Rattle.entry_ends.specs.declared.admission.Verdict.the-variants.{Passed, Refused as Failed}
@@ -75,24 +76,33 @@ module _ {formula table : List ℕ} where
           go (some ds) e = refl
 
 -- ---- admission
-checked-admitted : (formula table w : List ℕ) → leastWork ≤ length w → checked formula table ≡ admitted formula table w
-checked-admitted formula table w wide = sym (rw (le-ltb (length w) leastWork wide, admitted))
+checked-admitted : (formula table : List ℕ) (field : ℕ) (w : List ℕ) → leastWork ≤ length w → field ≤ allTall → checked formula table ≡ admitted formula table field w
+checked-admitted formula table field w wide low = sym (rw (le-ltb (length w) leastWork wide, le-ltb allTall field low, admitted))
 
-module _ {formula table w : List ℕ} (wide : leastWork ≤ length w) where
-  pub admits-refused : {why : Refusal} → Checks formula table (Failed why) → Admits formula table w w (Refused why)
-  admits-refused c = record { shows = c .answers ∙ checked-admitted formula table w wide; ready = record { long = wide; placed = tt }; long = refl }
-
-  pub admits-text : Checks formula table Passed → {w′ : List ℕ} → w′ ≡ formula ++ drop (length formula) w → Admits formula table w w′ (Text 0 (length formula))
-  admits-text c {w′} e =
-      let short = checks-short c in
-      let same : length w′ ≡ length w = rw e (simp (length-append, length-drop) (omega arith)) in
+module _ {formula table w : List ℕ} {field : ℕ} (wide : leastWork ≤ length w) where
+  pub admits-high : allTall < field → Admits formula table field w w (Refused TallField)
+  admits-high high =
       record {
-        shows = ap passed (ap (λ (l : List ℕ). part 0 (length formula) l) e ∙ take-append-seam formula (drop (length formula) w))
-            ∙ c .answers
-            ∙ checked-admitted formula table w wide;
-        ready = record { long = omega arith; placed = (inl refl, omega arith) };
-        long = same;
+        shows = sym (rw (le-ltb (length w) leastWork wide, lt-ltb allTall field high, admitted));
+        ready = record { long = wide; placed = tt };
+        long = refl;
       }
+
+  module _ (low : field ≤ allTall) where
+    pub admits-refused : {why : Refusal} → Checks formula table (Failed why) → Admits formula table field w w (Refused why)
+    admits-refused c = record { shows = c .answers ∙ checked-admitted formula table field w wide low; ready = record { long = wide; placed = tt }; long = refl }
+
+    pub admits-text : Checks formula table Passed → {w′ : List ℕ} → w′ ≡ formula ++ drop (length formula) w → Admits formula table field w w′ (Text 0 (length formula))
+    admits-text c {w′} e =
+        let short = checks-short c in
+        let same : length w′ ≡ length w = rw e (simp (length-append, length-drop) (omega arith)) in
+        record {
+          shows = ap passed (ap (λ (l : List ℕ). part 0 (length formula) l) e ∙ take-append-seam formula (drop (length formula) w))
+              ∙ c .answers
+              ∙ checked-admitted formula table field w wide low;
+          ready = record { long = omega arith; placed = (inl refl, omega arith) };
+          long = same;
+        }
 
 -- ---- the last step
 pub puts-refused : {w output : List ℕ} {p : Progress} {k : Refusal} → p ≡ Refused k → PutOut w p (RefusedBy k) output output

@@ -1,4 +1,4 @@
-// Whether a formula and its table are admitted.
+// Whether a formula, its table and its tall field are admitted.
 use super::output::copy_over;
 use text::Progress;
 use text::Refusal;
@@ -32,11 +32,14 @@ pub fn check(formula: &[u8], table: &[u8]) -> Verdict
     Verdict::Passed
 }
 
-// The formula as the first text of the work buffer, or its refusal.
-pub fn admit(work: &mut [u8], formula: &[u8], table: &[u8]) -> Progress
+// The formula as the first text of the work buffer, or its refusal: number 15, then the checks.
+pub fn admit(work: &mut [u8], formula: &[u8], table: &[u8], field: u32) -> Progress
     requires { ⌜ leastWork ≤ length (now work) ⌝ }
-    ensures { λ r. ⌜ Admits (now (formula .entry)) (now (table .entry)) (now (work .entry)) (now (work .exit)) r ⌝ }
+    ensures { λ r. ⌜ Admits (now (formula .entry)) (now (table .entry)) field (now (work .entry)) (now (work .exit)) r ⌝ }
 {
+    if text::ALL_TALL < field {
+        return Progress::Refused(Refusal::TallField);
+    }
     match check(formula, table) {
         Verdict::Passed => {
             copy_over(work, formula);

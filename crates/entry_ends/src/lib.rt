@@ -1,4 +1,4 @@
-// The two ends of the entry: whether a formula and its table are admitted, and the finished text put out.
+// The two ends of the entry: whether a formula, its table and its tall field are admitted, and the finished text put out.
 mod admission;
 mod output;
 

@@ -2,7 +2,7 @@
 --     pastFormula, ..    how much is read
 --     converted-cut      a call on what was read is converted as a call on all that there is to read
 use mathlib.Core.Path.{_≡_, refl, sym, ap, ap₂, _∙_}
-use mathlib.Core.Bool.{Bool, true, false, cond}
+use mathlib.Core.Bool.{Bool, true, false}
 use mathlib.Core.List.{List, [], _∷_}
 use mathlib.Core.Option.{Option, none, Option·getD}
 use Prim.Native.Nat.{ℕ, _+_, _<_}
@@ -15,6 +15,7 @@ use Rattle.spec.specs.Result.{Result, refused, _then_}
 use Rattle.spec.specs.Table.{Definition, definitions, mostBytes}
 use Rattle.spec.specs.Program.{firstLine, formulaOf}
 use Rattle.spec.specs.Laws.Table.{admitted-same}
+use Rattle.spec.specs.Finish.{allTall}
 use Rattle.spec.specs.Pipeline.{mostFormula, leastWork, readable, checked, admitted, typstToLatex, fitting, converted}
 
 -- one byte more than a formula, an input (a first line, then the formula) and a table may have
@@ -62,21 +63,21 @@ cut-definitions {table} {read} (beyond h k) = long-faulty read k ∙ sym (long-f
 pub definitions-cut : (table : List ℕ) → definitions (take pastTable table) ≡ definitions table
 definitions-cut table = cut-definitions (cut mostBytes table)
 
-long-refused : (formula table work : List ℕ) → mostFormula < length formula → admitted formula table work ≡ cond (ltb (length work) leastWork) (refused 4) (refused 2)
-long-refused formula table work h = go (ltb (length work) leastWork) refl
-  where
-    go : (b : Bool) → ltb (length work) leastWork ≡ b → admitted formula table work ≡ cond b (refused 4) (refused 2)
-    go true e = rw (e, admitted)
-    go false e = rw (e, admitted, lt-ltb mostFormula (length formula) h, checked)
+long-refused : (formula table : List ℕ) → mostFormula < length formula → checked formula table ≡ refused 2
+long-refused formula table h = rw (lt-ltb mostFormula (length formula) h, checked)
 
-admitted-cut : {formula front : List ℕ} (table read work : List ℕ) → Cut mostFormula formula front → definitions read ≡ definitions table → admitted front read work ≡ admitted formula table work
-admitted-cut {formula} table read work (whole e) d = ap (λ (s : List ℕ). admitted s read work) e ∙ admitted-same formula read table work (ap (readable formula) d)
-admitted-cut {formula} {front} table read work (beyond h k) d = long-refused front read work k ∙ sym (long-refused formula table work h)
+admitted-cut :
+    {formula front : List ℕ} (table read : List ℕ) (field : ℕ) (work : List ℕ) → Cut mostFormula formula front → definitions read ≡ definitions table
+    → admitted front read field work ≡ admitted formula table field work
+admitted-cut {formula} table read field work (whole e) d = ap (λ (s : List ℕ). admitted s read field work) e ∙ admitted-same formula read table field work (ap (readable formula) d)
+admitted-cut {formula} {front} table read field work (beyond h k) d =
+    ap (λ r. elim (ltb (length work) leastWork) as (λ _. Result (List ℕ)) [ true ↦ refused 4 | false ↦ elim (ltb allTall field) as (λ _. Result (List ℕ)) [ true ↦ refused 15 | false ↦ r ] ])
+    (long-refused front read k ∙ sym (long-refused formula table h))
 
 pub converted-cut :
-    (formula table : List ℕ) (display : Bool) (work output : List ℕ)
-    → converted (take pastFormula formula) (take pastTable table) display work output ≡ converted formula table display work output
+    (formula table : List ℕ) (display : Bool) (field : ℕ) (work output : List ℕ)
+    → converted (take pastFormula formula) (take pastTable table) display field work output ≡ converted formula table display field work output
 unfolding converted
-converted-cut formula table display work output =
-    ap₂ (λ (r : Result (List ℕ)) (o : Option (List Definition)). r then typstToLatex (Option·getD o []) display then fitting output)
-    (admitted-cut table (take pastTable table) work (cut mostFormula formula) (definitions-cut table)) (definitions-cut table)
+converted-cut formula table display field work output =
+    ap₂ (λ (r : Result (List ℕ)) (o : Option (List Definition)). r then typstToLatex (Option·getD o []) display field then fitting output)
+    (admitted-cut table (take pastTable table) field work (cut mostFormula formula) (definitions-cut table)) (definitions-cut table)

@@ -13,6 +13,7 @@ use lib.ListN.{length, take, drop, replicate, length-append, length-take, length
 use lib.Seq.{take-all, take-append-seam}
 use Rattle.spec.specs.Symbols.{bytes}
 use Rattle.spec.specs.Result.{Result, passed, refused, _then_}
+use Rattle.spec.specs.Finish.{allTall}
 use Rattle.spec.specs.Pipeline.{leastWork, definitionsOr, admitted, typstToLatex, fitting, converted, answerOf, outputAfter, workAfter, Call}
 use Rattle.spec.specs.Program.{firstLine, formulaOf, mostOutput, reported, answered, printed, bufferAfter, Read, Prints}
 use Rattle.formula_text.specs.Cut.{pastFormula, pastInput, pastTable, first-cut, formula-cut, converted-cut}
@@ -20,31 +21,31 @@ use Rattle.formula_report.specs.Standing.{Stands}
 
 -- the answer of a call with the program's buffers, as a text at the start of another
 pub record Converts (formula table : List ℕ) (display : Bool) (work output w : List ℕ) (count : ℕ) (work′ output′ w′ : List ℕ) : Type 0 where
-  pub stands : Stands (reported (converted formula table display (replicate leastWork 0) (replicate mostOutput 0))) w count w′
-  pub clears : work′ ≡ workAfter (converted formula table display (replicate leastWork 0) (replicate mostOutput 0)) work
-  pub puts-out : output′ ≡ outputAfter (converted formula table display (replicate leastWork 0) (replicate mostOutput 0)) output
+  pub stands : Stands (reported (converted formula table display allTall (replicate leastWork 0) (replicate mostOutput 0))) w count w′
+  pub clears : work′ ≡ workAfter (converted formula table display allTall (replicate leastWork 0) (replicate mostOutput 0)) work
+  pub puts-out : output′ ≡ outputAfter (converted formula table display allTall (replicate leastWork 0) (replicate mostOutput 0)) output
 
 -- ---- a call
 -- only the buffers' lengths count
 converted-lent :
-    (formula table : List ℕ) (display : Bool) (work work₁ output output₁ : List ℕ) → length work ≡ length work₁ → length output ≡ length output₁
-    → converted formula table display work output ≡ converted formula table display work₁ output₁
+    (formula table : List ℕ) (display : Bool) (field : ℕ) (work work₁ output output₁ : List ℕ) → length work ≡ length work₁ → length output ≡ length output₁
+    → converted formula table display field work output ≡ converted formula table display field work₁ output₁
 unfolding converted
-converted-lent formula table display work work₁ output output₁ w o =
-    ap (λ a. a then typstToLatex (definitionsOr table) display then fitting output) admits ∙ fits (admitted formula table work₁ then typstToLatex (definitionsOr table) display)
+converted-lent formula table display field work work₁ output output₁ w o =
+    ap (λ a. a then typstToLatex (definitionsOr table) display field then fitting output) admits ∙ fits (admitted formula table field work₁ then typstToLatex (definitionsOr table) display field)
   where
-    admits : admitted formula table work ≡ admitted formula table work₁
+    admits : admitted formula table field work ≡ admitted formula table field work₁
     admits = rw (w, admitted)
 
     fits : (r : Result (List ℕ)) → (r then fitting output) ≡ (r then fitting output₁)
     fits (passed s) = rw (o, fitting)
     fits (refused k) = refl
 
-module _ {formula table work output work′ output′ : List ℕ} {display : Bool} {answer : Result ℕ} (wide : length work ≡ leastWork) (long : length output ≡ mostOutput) (c : Call formula table display work output answer work′ output′) where
-  same : converted formula table display work output ≡ converted formula table display (replicate leastWork 0) (replicate mostOutput 0)
-  same = converted-lent formula table display _ _ _ _ (wide ∙ sym (length-replicate {A = ℕ} leastWork 0)) (long ∙ sym (length-replicate {A = ℕ} mostOutput 0))
+module _ {formula table work output work′ output′ : List ℕ} {display : Bool} {answer : Result ℕ} (wide : length work ≡ leastWork) (long : length output ≡ mostOutput) (c : Call formula table display allTall work output answer work′ output′) where
+  same : converted formula table display allTall work output ≡ converted formula table display allTall (replicate leastWork 0) (replicate mostOutput 0)
+  same = converted-lent formula table display allTall _ _ _ _ (wide ∙ sym (length-replicate {A = ℕ} leastWork 0)) (long ∙ sym (length-replicate {A = ℕ} mostOutput 0))
 
-  converts : {w w′ : List ℕ} {count : ℕ} → Stands (reported (converted formula table display work output)) w count w′ → Converts formula table display work output w count work′ output′ w′
+  converts : {w w′ : List ℕ} {count : ℕ} → Stands (reported (converted formula table display allTall work output)) w count w′ → Converts formula table display work output w count work′ output′ w′
   converts {w} {w′} {count} s =
       record {
         stands = subst (λ r. Stands (reported r) w count w′) same s;
@@ -53,7 +54,7 @@ module _ {formula table work output work′ output′ : List ℕ} {display : Boo
       }
 
   pub converts-done : {n : ℕ} {w w′ : List ℕ} {count : ℕ} → answer ≡ passed n → Stands (reported (passed (take n output′))) w count w′ → Converts formula table display work output w count work′ output′ w′
-  converts-done {n} {w} {w′} {count} e s = converts (subst (λ r. Stands (reported r) w count w′) (go (converted _ _ _ _ _) (sym e ∙ c .answers) (c .writes)) s)
+  converts-done {n} {w} {w′} {count} e s = converts (subst (λ r. Stands (reported r) w count w′) (go (converted _ _ _ _ _ _) (sym e ∙ c .answers) (c .writes)) s)
     where
       go : (r : Result (List ℕ)) → passed n ≡ answerOf r → output′ ≡ outputAfter r output → passed (take n output′) ≡ r
       go (refused k) e o = absurd (let z : _≡_ {A = ℕ} 0 1 = cc in omega arith)
@@ -62,7 +63,7 @@ module _ {formula table work output work′ output′ : List ℕ} {display : Boo
           ap passed (ap₂ (λ (k : ℕ) (l : List ℕ). take k l) long o ∙ take-append-seam latex (drop (length latex) output))
 
   pub converts-refused : {k : ℕ} {w w′ : List ℕ} {count : ℕ} → answer ≡ refused k → Stands (reported (refused k)) w count w′ → Converts formula table display work output w count work′ output′ w′
-  converts-refused {k} {w} {w′} {count} e s = converts (subst (λ r. Stands (reported r) w count w′) (go (converted _ _ _ _ _) (sym e ∙ c .answers)) s)
+  converts-refused {k} {w} {w′} {count} e s = converts (subst (λ r. Stands (reported r) w count w′) (go (converted _ _ _ _ _ _) (sym e ∙ c .answers)) s)
     where
       go : (r : Result (List ℕ)) → refused k ≡ answerOf r → refused k ≡ r
       go (refused j) e = cc
@@ -111,7 +112,7 @@ module _ (inputRead : List ℕ) (n : ℕ) (full : length inputRead ≡ pastInput
         let formula : formulaOf (take n inputRead) ≡ take pastFormula (formulaOf input) = ap formulaOf (input-read input r) ∙ formula-cut input in
         let records : take m tableRead ≡ take pastTable table = t display line ∙ ap (λ (k : ℕ). take k table) wide in
         let cut = rw records at (rw formula at c) in
-        let same = converted-cut (formulaOf input) table display (replicate leastWork 0) (replicate mostOutput 0) in
+        let same = converted-cut (formulaOf input) table display allTall (replicate leastWork 0) (replicate mostOutput 0) in
         let text = subst (λ s. Stands s w count w′) (ap reported same ∙ sym (printed-for input table line)) (cut .stands) in
         record {
           answers = text .counted;

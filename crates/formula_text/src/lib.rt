@@ -83,7 +83,7 @@ fn convert(
     requires { ⌜ mostText ≤ length (now text) ⌝ }
     ensures { λ r. ⌜ Converts (now (formula .entry)) (now (table .entry)) display (now (work .entry)) (now (output .entry)) (now (text .entry)) r (now (work .exit)) (now (output .exit)) (now (text .exit)) ⌝ }
 {
-    match math_conv::typst_to_latex(formula, table, display, work, output) {
+    match math_conv::typst_to_latex(formula, table, display, text::ALL_TALL, work, output) {
         Answer::Done(n) => formula_report::put_latex(text, &output[..n]),
         Answer::Refused(why) => formula_report::put_refusal(text, why),
     }

@@ -8,7 +8,6 @@ use mathlib.Core.Path.{_≡_, refl, sym, ap, _∙_}
 use mathlib.Core.Bool.{Bool, true, false, cond}
 use mathlib.Core.List.{List, [], _∷_, _++_}
 use mathlib.Core.Logic.{_⊎_, inl, inr, ⊎-elim}
-use mathlib.Core.Option.{Option, none, some}
 use Prim.Native.Nat.{ℕ}
 use lib.Dec.{eqb, ltb}
 use lib.ListN.{length, drop}
@@ -16,21 +15,22 @@ use Rattle.spec.specs.Symbols.{foreign, textMark, romanMark, any}
 use Rattle.spec.specs.Sweep.{Rule, sweep}
 use Rattle.spec.specs.Result.{Result, passed, refused, _then_, mostSymbols, grown, stage}
 use Rattle.spec.specs.Held.{Held, withText, filled, inFull, heldStage, holdTexts, holdBoth, putBack}
-use Rattle.spec.specs.Table.{Definition, definitions, inOrder}
+use Rattle.spec.specs.Table.{Definition, inOrder}
 use Rattle.spec.specs.Definitions.{applyDefinition, applyDefinitions, applyDefinitionsOutsideText}
 use Rattle.spec.specs.Rows.{Row, greekLetters, wordMappings}
 use Rattle.spec.specs.Words.{greek, wordOrLiteral, heldRows, convertWords, convertGreekCapitals}
 use Rattle.spec.specs.Scripts.{convertSubscripts, convertSuperscripts}
 use Rattle.spec.specs.Fractions.{convertFractions}
 use Rattle.spec.specs.Finish.{escapeSetBraces, convertLr, sizeDelimitersToContent, escapePercent, convertAlignment, dropThinSpaceAfterCommands}
-use Rattle.spec.specs.Pipeline.{mostFormula, leastWork, unmarkSolidus, onDisplay, convertSyntax, typstToLatex, definitionsOr, readable, admitted, fitting, converted, answerOf, outputAfter, Call}
+use Rattle.spec.specs.Pipeline.{unmarkSolidus, onDisplay, convertSyntax, typstToLatex, definitionsOr, admitted, fitting, converted, answerOf, outputAfter, Call}
+use Rattle.spec.specs.Laws.Admission.{Admission, not-admitted, is-admitted, admission}
 use Rattle.spec.specs.Laws.Booleans.{and-parts}
 use Rattle.held_laws.specs.Marks.{hasMark}
 use Rattle.held_laws.specs.WellMade.{textsOf, WellMade}
 use Rattle.held_laws.specs.InFull.{in-full-order}
 use Rattle.held_laws.specs.Holding.{hold-texts-made, hold-both-made}
 use Rattle.held_laws.specs.Rewriting.{Between, sweep-made}
-use Rattle.held_laws.specs.Instances.{any-unmarked, EverySound, defined-between, fineRow, fineRows, greek-fine, words-fine, greek-between, word-between, refused-not, passed-one, table-sound, definitions-made, rows-made}
+use Rattle.held_laws.specs.Instances.{any-unmarked, EverySound, defined-between, fineRow, fineRows, greek-fine, words-fine, greek-between, word-between, refused-not, table-sound, definitions-made, rows-made}
 use Rattle.stage_laws.specs.Each.{Each}
 use Rattle.stage_laws.specs.Calls.{unmarked}
 use Rattle.stage_laws.specs.Stages.{Passes, pass, stop, beforeDefinitions, beforeWords, before-definitions-passes, before-words-passes}
@@ -65,8 +65,8 @@ abbrev pub wordsBefore : List ℕ → Result (List ℕ)
 wordsBefore s = heldRowsBefore greek greekLetters (holdBoth s) then heldRowsBefore wordOrLiteral wordMappings then putBackBefore
 
 -- the stages that did not move
-abbrev pub behindWords : Bool → Result (List ℕ) → Result (List ℕ)
-behindWords display r =
+abbrev pub behindWords : Bool → ℕ → Result (List ℕ) → Result (List ℕ)
+behindWords display field r =
     r
     then convertGreekCapitals
     then convertSubscripts
@@ -75,18 +75,18 @@ behindWords display r =
     then stage unmarkSolidus
     then stage escapeSetBraces
     then convertLr
-    then onDisplay display (stage sizeDelimitersToContent)
+    then onDisplay display (stage (sizeDelimitersToContent field))
     then stage escapePercent
 
-abbrev pub convertSyntaxBefore : Bool → List ℕ → Result (List ℕ)
-convertSyntaxBefore display s = behindWords display (beforeWords s then wordsBefore)
+abbrev pub convertSyntaxBefore : Bool → ℕ → List ℕ → Result (List ℕ)
+convertSyntaxBefore display field s = behindWords display field (beforeWords s then wordsBefore)
 
-abbrev pub typstToLatexBefore : List Definition → Bool → List ℕ → Result (List ℕ)
-typstToLatexBefore ds display s =
-    beforeDefinitions s then outsideTextBefore ds then convertSyntaxBefore display then stage convertAlignment then stage dropThinSpaceAfterCommands
+abbrev pub typstToLatexBefore : List Definition → Bool → ℕ → List ℕ → Result (List ℕ)
+typstToLatexBefore ds display field s =
+    beforeDefinitions s then outsideTextBefore ds then convertSyntaxBefore display field then stage convertAlignment then stage dropThinSpaceAfterCommands
 
-abbrev pub convertedBefore : List ℕ → List ℕ → Bool → List ℕ → List ℕ → Result (List ℕ)
-convertedBefore formula table display work output = admitted formula table work then typstToLatexBefore (definitionsOr table) display then fitting output
+abbrev pub convertedBefore : List ℕ → List ℕ → Bool → ℕ → List ℕ → List ℕ → Result (List ℕ)
+convertedBefore formula table display field work output = admitted formula table field work then typstToLatexBefore (definitionsOr table) display field then fitting output
 
 -- ---- 6, or the same
 abbrev pub SixOr : Result (List ℕ) → Result (List ℕ) → Type 0
@@ -167,59 +167,46 @@ words-six-or s free =
     go (refused n) e = inr refl
 
 -- ---- the whole
-syntax-six-or : (display : Bool) (s : List ℕ) → Each unmarked s → SixOr (convertSyntaxBefore display s) (convertSyntax display s)
+syntax-six-or : (display : Bool) (field : ℕ) (s : List ℕ) → Each unmarked s → SixOr (convertSyntaxBefore display field s) (convertSyntax display field s)
 unfolding convertSyntax
-syntax-six-or display s free = then-six-or (behindWords display) refl (go (beforeWords s) (before-words-passes s free))
+syntax-six-or display field s free = then-six-or (behindWords display field) refl (go (beforeWords s) (before-words-passes s free))
   where
     go : (r : Result (List ℕ)) → Passes unmarked r → SixOr (r then wordsBefore) (r then convertWords)
     go (passed t) (pass a) = words-six-or t (each-bare a)
     go (refused n) stop = inr refl
 
-latex-six-or : (ds : List Definition) → EverySound (inOrder ds) → (display : Bool) (s : List ℕ) → Each unmarked s → SixOr (typstToLatexBefore ds display s) (typstToLatex ds display s)
+latex-six-or : (ds : List Definition) → EverySound (inOrder ds) → (display : Bool) (field : ℕ) (s : List ℕ) → Each unmarked s → SixOr (typstToLatexBefore ds display field s) (typstToLatex ds display field s)
 unfolding typstToLatex
-latex-six-or ds sound display s free = then-six-or behind refl (go (beforeDefinitions s) (before-definitions-passes s free))
+latex-six-or ds sound display field s free = then-six-or behind refl (go (beforeDefinitions s) (before-definitions-passes s free))
   where
     behind : Result (List ℕ) → Result (List ℕ)
     behind r = r then stage convertAlignment then stage dropThinSpaceAfterCommands
 
-    next : (r : Result (List ℕ)) → Passes unmarked r → SixOr (r then convertSyntaxBefore display) (r then convertSyntax display)
-    next (passed t) (pass a) = syntax-six-or display t a
+    next : (r : Result (List ℕ)) → Passes unmarked r → SixOr (r then convertSyntaxBefore display field) (r then convertSyntax display field)
+    next (passed t) (pass a) = syntax-six-or display field t a
     next (refused n) stop = inr refl
 
     go : (r : Result (List ℕ)) → Passes unmarked r
-        → SixOr (r then outsideTextBefore ds then convertSyntaxBefore display) (r then applyDefinitionsOutsideText ds then convertSyntax display)
+        → SixOr (r then outsideTextBefore ds then convertSyntaxBefore display field) (r then applyDefinitionsOutsideText ds then convertSyntax display field)
     go (passed t) (pass a) =
-        ⊎-elim (λ six. inl (ap (λ r. r then convertSyntaxBefore display) six))
+        ⊎-elim (λ six. inl (ap (λ r. r then convertSyntaxBefore display field) six))
         (λ same. rw same (next (applyDefinitionsOutsideText ds t) (outside-passes ds sound t a)))
         (outside-six-or ds sound t (each-bare a))
     go (refused n) stop = inr refl
 
 -- ---- calls
--- an admitted formula holds no mark
-admitted-bare : (formula table work : List ℕ) (s : List ℕ) → admitted formula table work ≡ passed s → hasMark s ≡ false
-admitted-bare formula table work s e = go (ltb (length work) leastWork) (ltb mostFormula (length formula)) (any foreign formula) refl (definitions table) e
-  where
-    go : (a b c : Bool) → any foreign formula ≡ c → (o : Option (List Definition))
-        → elim a as (λ _. Result (List ℕ)) [ true ↦ refused 4 | false ↦ elim b as (λ _. Result (List ℕ)) [ true ↦ refused 2 | false ↦ elim c as (λ _. Result (List ℕ)) [ true ↦ refused 1 | false ↦ readable formula o ] ] ]
-        ≡ passed s → hasMark s ≡ false
-    go true b c q o e = refused-not e
-    go false true c q o e = refused-not e
-    go false false true q o e = refused-not e
-    go false false false q none e = refused-not e
-    go false false false q (some ds) e = ap hasMark (sym (passed-one e)) ∙ any-unmarked foreign refl refl formula q
-
-pub before-or-six : (formula table : List ℕ) (display : Bool) (work output : List ℕ) → SixOr (convertedBefore formula table display work output) (converted formula table display work output)
+pub before-or-six : (formula table : List ℕ) (display : Bool) (field : ℕ) (work output : List ℕ) → SixOr (convertedBefore formula table display field work output) (converted formula table display field work output)
 unfolding converted
-before-or-six formula table display work output = then-six-or (λ r. r then fitting output) refl (go (admitted formula table work) refl)
+before-or-six formula table display field work output = then-six-or (λ r. r then fitting output) refl (go (admission formula table field work))
   where
-    go : (r : Result (List ℕ)) → admitted formula table work ≡ r → SixOr (r then typstToLatexBefore (definitionsOr table) display) (r then typstToLatex (definitionsOr table) display)
-    go (passed s) e = latex-six-or (definitionsOr table) (table-sound table) display s (bare-each s (admitted-bare formula table work s e))
-    go (refused n) e = inr refl
+    go : {r : Result (List ℕ)} → Admission formula table field work r → SixOr (r then typstToLatexBefore (definitionsOr table) display field) (r then typstToLatex (definitionsOr table) display field)
+    go (not-admitted n) = inr refl
+    go (is-admitted a) = latex-six-or (definitionsOr table) (table-sound table) display field formula (bare-each formula (any-unmarked foreign refl refl formula (a .no-foreign)))
 
 pub accepted-before :
-    {formula table work output work′ output′ s : List ℕ} {display : Bool} {answer : Result ℕ} → Call formula table display work output answer work′ output′
-    → convertedBefore formula table display work output ≡ passed s → (answer ≡ passed (length s)) × (output′ ≡ s ++ drop (length s) output)
-accepted-before {formula} {table} {work} {output} {s = s} {display} call accepted =
-    let now : converted formula table display work output ≡ passed s =
-    ⊎-elim (λ six. refused-not (sym six ∙ accepted)) (λ same. sym same ∙ accepted) (before-or-six formula table display work output) in
+    {formula table work output work′ output′ s : List ℕ} {display : Bool} {field : ℕ} {answer : Result ℕ} → Call formula table display field work output answer work′ output′
+    → convertedBefore formula table display field work output ≡ passed s → (answer ≡ passed (length s)) × (output′ ≡ s ++ drop (length s) output)
+accepted-before {formula} {table} {work} {output} {s = s} {display} {field} call accepted =
+    let now : converted formula table display field work output ≡ passed s =
+    ⊎-elim (λ six. refused-not (sym six ∙ accepted)) (λ same. sym same ∙ accepted) (before-or-six formula table display field work output) in
     (call .answers ∙ ap answerOf now, call .writes ∙ ap (λ r. outputAfter r output) now)

@@ -29,9 +29,9 @@ partCoded false start length = inFormula start length
 
 -- ---- a call, its answer in numbers
 pub call-answered :
-    {formula table work output work′ output′ : List ℕ} {display : Bool} {a b : Result ℕ} → a ≡ b
-    → Call formula table display work output a work′ output′
-    → Call formula table display work output b work′ output′
+    {formula table work output work′ output′ : List ℕ} {display : Bool} {field : ℕ} {a b : Result ℕ} → a ≡ b
+    → Call formula table display field work output a work′ output′
+    → Call formula table display field work output b work′ output′
 call-answered e c = record { answers = sym e ∙ c .answers; clears = c .clears; writes = c .writes }
 
 -- no refusal has the number 0

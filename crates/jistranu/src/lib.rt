@@ -9,20 +9,22 @@ ghost use Rattle.spec.specs.WordAt.{wordAt, numberOf, partOf};
 ghost use Rattle.plain_check.specs.Check.{Checked as PlainChecked};
 ghost use Rattle.jistranu.specs.Codes.{resultOf, plainAnswerOf, partCoded};
 
-// 0, and in `count` the bytes of LaTeX at the start of `output`; or the number of the refusal, and 0.
+// 0, and in `count` the bytes of LaTeX at the start of `output`; or the number of the refusal, and 0. `field` is as wide as a caller's
+// number, so that no value above 31 is cut to a smaller one.
 #[no_mangle]
 pub extern "C" fn jistranu_typst_to_latex(
     formula: &[u8],
     table: &[u8],
     display: bool,
+    field: u32,
     work: &mut [u8],
     output: &mut [u8],
     count: &mut usize,
 ) -> u64
-    ensures { λ r. ⌜ Call (now (formula .entry)) (now (table .entry)) display (now (work .entry)) (now (output .entry)) (resultOf r (now (count .exit))) (now (work .exit)) (now (output .exit)) ⌝ }
+    ensures { λ r. ⌜ Call (now (formula .entry)) (now (table .entry)) display field (now (work .entry)) (now (output .entry)) (resultOf r (now (count .exit))) (now (work .exit)) (now (output .exit)) ⌝ }
     ensures { λ r. ⌜ ((r ≡ 0 → ⊥) → now (count .exit) ≡ 0) ⌝ }
 {
-    let answer = math_conv::typst_to_latex(formula, table, display, work, output);
+    let answer = math_conv::typst_to_latex(formula, table, display, field, work, output);
     match answer {
         Answer::Done(n) => {
             *count = n;

@@ -23,10 +23,10 @@ fitting-fits output {n} (passed s) e = go (ltb (length output) (length s)) refl 
     go false t e = let same : n ≡ length s = cc in omega (arith, ltb-false (length output) (length s) t)
 
 pub call-count-fits :
-    {formula table work output work′ output′ : List ℕ} {display : Bool} {answer : Answer} {n : ℕ}
-    → Call formula table display work output (meaning answer) work′ output′
+    {formula table work output work′ output′ : List ℕ} {display : Bool} {field : ℕ} {answer : Answer} {n : ℕ}
+    → Call formula table display field work output (meaning answer) work′ output′
     → answer ≡ Done n
     → n ≤ length output
 unfolding converted
-call-count-fits {formula} {table} {work} {output} {display = display} c e =
-    fitting-fits output (admitted formula table work then typstToLatex (definitionsOr table) display) (sym (ap meaning e) ∙ c .answers)
+call-count-fits {formula} {table} {work} {output} {display = display} {field} c e =
+    fitting-fits output (admitted formula table field work then typstToLatex (definitionsOr table) display field) (sym (ap meaning e) ∙ c .answers)

@@ -53,5 +53,5 @@ absent-marked w h below above n t =
     or-split (strange w) (breaksPairRule w) h (λ p. absent-foreign w (not-true (all plainSymbol w) p) (markedStyle below above) n t)
     (λ p. absent-if w p 0 s (chain-pairs (rule true) pairRule (rule-pair true) 0 0 s (marked-rule below above n t)))
 
-pub absent-final : (w : List ℕ) → strange w ≡ true → (n : ℕ) (t : Tree) → find w (write finalStyle n t) ≡ none
-absent-final w h n t = absent-foreign w (not-true (all plainSymbol w) h) finalStyle n t
+pub absent-final : (w : List ℕ) → strange w ≡ true → (sized : Bool) (n : ℕ) (t : Tree) → find w (write (finalStyle sized) n t) ≡ none
+absent-final w h sized n t = absent-foreign w (not-true (all plainSymbol w) h) (finalStyle sized) n t

@@ -1,34 +1,37 @@
--- Calls on plain formulas, with display on and a table of no records, whatever buffers are lent.
+-- Calls on plain formulas, with display on and a table of no records, whatever the tall field and whatever buffers are lent.
 --     no-records        a table of no records has no bytes, or the byte 00 alone
 --     call-prints       an accepting call puts out the formula's LaTeX
 --     call-accepts      a call within the limits accepts
 --     accepting-call    there are such calls
---     calls-apart       two accepting calls that put out the same bytes had the same formula
+--     calls-apart       two accepting calls, under one field or two, that put out the same bytes had the same formula
+--     calls-by-frac     accepting calls on one formula put out the same bytes where their fields have the same bit of `\frac`
 use mathlib.Core.Path.{_≡_, refl, sym, ap, _∙_, subst}
 use mathlib.Core.Bool.{Bool, true, false, cond}
 use mathlib.Core.List.{List, [], _∷_, _++_}
 use mathlib.Core.Logic.{_⊎_, inl, inr}
-use mathlib.Core.Option.{Option, none, some, Option·getD}
+use mathlib.Core.Option.{Option, some, Option·getD}
 use Prim.Native.Nat.{ℕ, suc, _+_, _≤_}
 use native.Mathlib.Omega.{arith}
 use lib.Dec.{eqb, ltb}
 use lib.ListN.{length, take, drop, replicate}
 use lib.Seq.{take-append-seam}
 use borrow.Author.Tests.{eqb-true, le-ltb}
-use Rattle.spec.specs.Symbols.{foreign, all, any}
+use Rattle.spec.specs.Symbols.{all}
 use Rattle.spec.specs.Result.{Result, passed, refused, mostSymbols}
 use Rattle.spec.specs.Table.{Definition, narrow, wide, formOf, start, definitions}
 use Rattle.spec.specs.Fractions.{mostRounds}
-use Rattle.spec.specs.Pipeline.{typstToLatex, mostFormula, leastWork, definitionsOr, readable, checked, admitted, fitting, converted, answerOf, outputAfter, workAfter, Call}
+use Rattle.spec.specs.Finish.{allTall, fracBit}
+use Rattle.spec.specs.Pipeline.{typstToLatex, mostFormula, leastWork, definitionsOr, checked, admitted, fitting, converted, answerOf, outputAfter, workAfter, Call}
 use Rattle.spec.specs.Grammar
 use Rattle.spec.specs.Grammar.{Plain}
+use Rattle.spec.specs.Laws.Admission.{Admission, not-admitted, is-admitted, admission}
 use Rattle.spec.specs.Laws.Table.{records-long, definitions-some}
 use Rattle.plain_printing.specs.Tree.{typstStyle}
 use Rattle.plain_printing.specs.Alphabet.{plainSymbol, all-plain, not-foreign}
 use Rattle.plain_printing.specs.Yields.{Yields, yields-weaken, then-yields}
 use Rattle.plain_printing.specs.TreeOf.{treeOf}
 use Rattle.plain_printing.specs.TreeTexts.{text-tree}
-use Rattle.plain_printing.specs.Sums.{sum-yields, sums-apart}
+use Rattle.plain_printing.specs.Sums.{sum-yields, sums-apart, latex-by-frac}
 
 -- ---- a table of no records
 abbrev pub NoRecords : List ℕ → Type 0
@@ -60,47 +63,37 @@ pub none-or : (table : List ℕ) → NoRecords table → definitionsOr table ≡
 none-or table h = ap (λ (ds : Option (List Definition)). Option·getD ds []) h
 
 -- ---- the answer of a call
-abbrev pub latexOf : {formula : List ℕ} → Plain formula → List ℕ
-latexOf p = Grammar.latex (p .sum)
+abbrev pub latexOf : ℕ → {formula : List ℕ} → Plain formula → List ℕ
+latexOf field p = Grammar.latex field (p .sum)
 
--- what numbers 4, 7, 5 and 10 ask of a call on a plain formula: where it holds, no number refuses the call
-pub record WithinLimits {formula : List ℕ} (p : Plain formula) (work output : List ℕ) : Type 0 where
+-- what numbers 4, 15, 7, 5 and 10 ask of a call on a plain formula: where it holds, no number refuses the call
+pub record WithinLimits (field : ℕ) {formula : List ℕ} (p : Plain formula) (work output : List ℕ) : Type 0 where
   pub work-wide : leastWork ≤ length work
+  pub field-small : field ≤ allTall
   pub shallow : Grammar.height (p .sum) ≤ mostRounds
-  pub latex-short : length (latexOf p) ≤ mostSymbols
-  pub output-long : length (latexOf p) ≤ length output
+  pub latex-short : length (latexOf field p) ≤ mostSymbols
+  pub output-long : length (latexOf field p) ≤ length output
 
 -- a formula that is admitted is not changed
-admitted-only : (formula table work x : List ℕ) → admitted formula table work ≡ passed x → x ≡ formula
-admitted-only formula table work x = narrow (ltb (length work) leastWork) (ltb mostFormula (length formula)) (any foreign formula) (definitions table)
+admitted-only : (formula table : List ℕ) (field : ℕ) (work x : List ℕ) → admitted formula table field work ≡ passed x → x ≡ formula
+admitted-only formula table field work x = go (admission formula table field work)
   where
-    read : (ds : Option (List Definition)) → readable formula ds ≡ passed x → x ≡ formula
-    read none e = cc
-    read (some ds) e = cc
+    go : {r : Result (List ℕ)} → Admission formula table field work r → r ≡ passed x → x ≡ formula
+    go (not-admitted n) e = cc
+    go (is-admitted a) e = cc
 
-    narrow : (b c d : Bool) (ds : Option (List Definition))
-        → (elim b as (λ b. Result (List ℕ)) [
-          | true ↦ refused 4
-          | false ↦ elim c as (λ c. Result (List ℕ)) [ true ↦ refused 2 | false ↦ elim d as (λ d. Result (List ℕ)) [ true ↦ refused 1 | false ↦ readable formula ds ] ]
-        ])
-        ≡ passed x
-        → x ≡ formula
-    narrow true c d ds e = cc
-    narrow false true d ds e = cc
-    narrow false false true ds e = cc
-    narrow false false false ds e = read ds e
-
-module _ {formula : List ℕ} (p : Plain formula) (table : List ℕ) (empty : NoRecords table) (work output : List ℕ) where
+module _ {formula : List ℕ} (p : Plain formula) (table : List ℕ) (empty : NoRecords table) (field : ℕ) (work output : List ℕ) where
   symbols-plain : all plainSymbol formula ≡ true
   symbols-plain = rw (← p .reads, ← text-tree (p .sum) (p .is-proper)) (all-plain typstStyle 0 (treeOf (p .sum)))
 
-  admitted-yields : Yields (WithinLimits p work output) (admitted formula table work) formula
+  admitted-yields : Yields (WithinLimits field p work output) (admitted formula table field work) formula
   admitted-yields =
       record {
-        passes-only = admitted-only formula table work;
+        passes-only = admitted-only formula table field work;
         passes = λ w. rw (
           le-ltb (length work) leastWork (w .work-wide),
           admitted,
+          le-ltb allTall field (w .field-small),
           le-ltb mostFormula (length formula) (p .short),
           checked,
           not-foreign formula symbols-plain,
@@ -108,60 +101,68 @@ module _ {formula : List ℕ} (p : Plain formula) (table : List ℕ) (empty : No
         );
       }
 
-  conversion-yields : Yields (WithinLimits p work output) (typstToLatex (definitionsOr table) true formula) (latexOf p)
+  conversion-yields : Yields (WithinLimits field p work output) (typstToLatex (definitionsOr table) true field formula) (latexOf field p)
   conversion-yields =
       rw (none-or table empty)
-      (subst (λ (f : List ℕ). Yields (WithinLimits p work output) (typstToLatex [] true f) (latexOf p)) (p .reads)
-      (yields-weaken (λ (w : WithinLimits p work output). record { shallow = w .shallow; short = w .latex-short }) (sum-yields (p .sum) (p .is-proper))))
+      (subst (λ (f : List ℕ). Yields (WithinLimits field p work output) (typstToLatex [] true field f) (latexOf field p)) (p .reads)
+      (yields-weaken (λ (w : WithinLimits field p work output). record { shallow = w .shallow; short = w .latex-short }) (sum-yields field (p .sum) (p .is-proper))))
 
-  fitting-yields : Yields (WithinLimits p work output) (fitting output (latexOf p)) (latexOf p)
+  fitting-yields : Yields (WithinLimits field p work output) (fitting output (latexOf field p)) (latexOf field p)
   fitting-yields =
-      record { passes-only = only (ltb (length output) (length (latexOf p))); passes = λ w. rw (le-ltb (length output) (length (latexOf p)) (w .output-long)) }
+      record { passes-only = only (ltb (length output) (length (latexOf field p))); passes = λ w. rw (le-ltb (length output) (length (latexOf field p)) (w .output-long)) }
     where
-      only : (b : Bool) (x : List ℕ) → cond b (refused 10) (passed (latexOf p)) ≡ passed x → x ≡ latexOf p
+      only : (b : Bool) (x : List ℕ) → cond b (refused 10) (passed (latexOf field p)) ≡ passed x → x ≡ latexOf field p
       only true x e = cc
       only false x e = cc
 
-  converted-yields : Yields (WithinLimits p work output) (converted formula table true work output) (latexOf p)
+  converted-yields : Yields (WithinLimits field p work output) (converted formula table true field work output) (latexOf field p)
   unfolding converted
-  converted-yields = then-yields _ (fitting output) (then-yields _ (typstToLatex (definitionsOr table) true) admitted-yields conversion-yields) fitting-yields
+  converted-yields = then-yields _ (fitting output) (then-yields _ (typstToLatex (definitionsOr table) true field) admitted-yields conversion-yields) fitting-yields
 
-  pub converted-prints : (x : List ℕ) → converted formula table true work output ≡ passed x → x ≡ latexOf p
+  pub converted-prints : (x : List ℕ) → converted formula table true field work output ≡ passed x → x ≡ latexOf field p
   converted-prints = converted-yields .passes-only
 
-  pub converted-accepts : WithinLimits p work output → converted formula table true work output ≡ passed (latexOf p)
+  pub converted-accepts : WithinLimits field p work output → converted formula table true field work output ≡ passed (latexOf field p)
   converted-accepts = converted-yields .passes
 
 -- ---- calls: the answer is a byte count, and the output is the bytes from the start of the buffer, as many as it says
-module _ {formula : List ℕ} (p : Plain formula) (table : List ℕ) (empty : NoRecords table) {work output work′ output′ : List ℕ} where
-  pub call-prints : {n : ℕ} → Call formula table true work output (passed n) work′ output′ → take n output′ ≡ latexOf p
-  call-prints {n} c = go (converted formula table true work output) refl (c .answers) (c .writes)
+module _ {formula : List ℕ} (p : Plain formula) (table : List ℕ) (empty : NoRecords table) {field : ℕ} {work output work′ output′ : List ℕ} where
+  pub call-prints : {n : ℕ} → Call formula table true field work output (passed n) work′ output′ → take n output′ ≡ latexOf field p
+  call-prints {n} c = go (converted formula table true field work output) refl (c .answers) (c .writes)
     where
-      go : (r : Result (List ℕ)) → converted formula table true work output ≡ r → passed n ≡ answerOf r → output′ ≡ outputAfter r output → take n output′ ≡ latexOf p
+      go : (r : Result (List ℕ)) → converted formula table true field work output ≡ r → passed n ≡ answerOf r → output′ ≡ outputAfter r output → take n output′ ≡ latexOf field p
       go (passed s) h e f =
           let count : n ≡ length s = cc in
-          rw (f, count) (take-append-seam s (drop (length s) output)) ∙ converted-prints p table empty work output s h
+          rw (f, count) (take-append-seam s (drop (length s) output)) ∙ converted-prints p table empty field work output s h
       go (refused number) h e f = cc
 
-  pub call-accepts : WithinLimits p work output → {answer : Result ℕ} → Call formula table true work output answer work′ output′ → answer ≡ passed (length (latexOf p))
-  call-accepts w c = c .answers ∙ ap answerOf (converted-accepts p table empty work output w)
+  pub call-accepts : WithinLimits field p work output → {answer : Result ℕ} → Call formula table true field work output answer work′ output′ → answer ≡ passed (length (latexOf field p))
+  call-accepts w c = c .answers ∙ ap answerOf (converted-accepts p table empty field work output w)
 
-pub accepting-call : {formula : List ℕ} (p : Plain formula) (table : List ℕ) → NoRecords table → (work output : List ℕ) → WithinLimits p work output
-    → Call formula table true work output (passed (length (latexOf p))) (replicate (length work) 0) (latexOf p ++ drop (length (latexOf p)) output)
-accepting-call {formula} p table empty work output w =
-    let accepted : converted formula table true work output ≡ passed (latexOf p) = converted-accepts p table empty work output w in
+pub accepting-call : {formula : List ℕ} (p : Plain formula) (table : List ℕ) → NoRecords table → (field : ℕ) (work output : List ℕ) → WithinLimits field p work output
+    → Call formula table true field work output (passed (length (latexOf field p))) (replicate (length work) 0) (latexOf field p ++ drop (length (latexOf field p)) output)
+accepting-call {formula} p table empty field work output w =
+    let accepted : converted formula table true field work output ≡ passed (latexOf field p) = converted-accepts p table empty field work output w in
     record {
       answers = ap answerOf (sym accepted);
       clears = ap (λ r. workAfter r work) (sym accepted);
       writes = ap (λ r. outputAfter r output) (sym accepted);
     }
 
--- two calls, each with a table of no records and with buffers of its own
+-- two calls under one field, or under two, each with a table of no records and with buffers of its own
 pub calls-apart : {formula formula₁ : List ℕ} → Plain formula → Plain formula₁ → (table table₁ : List ℕ) → NoRecords table → NoRecords table₁
-    → {work output work′ output′ work₁ output₁ work₁′ output₁′ : List ℕ} {n m : ℕ}
-    → Call formula table true work output (passed n) work′ output′
-    → Call formula₁ table₁ true work₁ output₁ (passed m) work₁′ output₁′
+    → {field field₁ : ℕ} {work output work′ output′ work₁ output₁ work₁′ output₁′ : List ℕ} {n m : ℕ}
+    → Call formula table true field work output (passed n) work′ output′
+    → Call formula₁ table₁ true field₁ work₁ output₁ (passed m) work₁′ output₁′
     → take n output′ ≡ take m output₁′
     → formula ≡ formula₁
-calls-apart p q table table₁ h k c d e =
-    sym (p .reads) ∙ sums-apart (p .sum) (q .sum) (p .is-proper) (q .is-proper) (sym (call-prints p table h c) ∙ e ∙ call-prints q table₁ k d) ∙ q .reads
+calls-apart p q table table₁ h k {field} {field₁} c d e =
+    sym (p .reads) ∙ sums-apart field field₁ (p .sum) (q .sum) (p .is-proper) (q .is-proper) (sym (call-prints p table h c) ∙ e ∙ call-prints q table₁ k d) ∙ q .reads
+
+-- under two fields: of the five commands only `\frac` can stand in a plain formula's LaTeX (`only-frac-sum`)
+pub calls-by-frac : {formula : List ℕ} → Plain formula → (table table₁ : List ℕ) → NoRecords table → NoRecords table₁
+    → {field field₁ : ℕ} {work output work′ output′ work₁ output₁ work₁′ output₁′ : List ℕ} {n m : ℕ} → fracBit field ≡ fracBit field₁
+    → Call formula table true field work output (passed n) work′ output′
+    → Call formula table₁ true field₁ work₁ output₁ (passed m) work₁′ output₁′
+    → take n output′ ≡ take m output₁′
+calls-by-frac p table table₁ h k {field} {field₁} e c d = call-prints p table h c ∙ latex-by-frac field field₁ e (p .sum) ∙ sym (call-prints p table₁ k d)

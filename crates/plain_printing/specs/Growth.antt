@@ -85,5 +85,5 @@ module _ (k : ℕ) (b c : Bool) (b′ c′ : Bool) where
     script-grows z n m sign x y (inner t) d =
         append-grows sign sign _ _ (le-refl _) (group-grows x y (write early n t) (write (late false) m t) (tree-grows false n m t d))
 
-pub latex-longest : (k : ℕ) (b c : Bool) (n : ℕ) (t : Tree) → length (write (record { greeks = k; low = b; high = c; sized = false }) n t) ≤ length (treeLatex t)
-latex-longest k b c n t = tree-grows k b c true true true n (height t) t (le-refl (height t))
+pub latex-longest : (k : ℕ) (b c z : Bool) (n : ℕ) (t : Tree) → length (write (record { greeks = k; low = b; high = c; sized = false }) n t) ≤ length (treeLatex z t)
+latex-longest k b c z n t = tree-grows k b c true true z n (height t) t (le-refl (height t))

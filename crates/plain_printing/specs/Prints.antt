@@ -1,4 +1,4 @@
--- What a plain tree's text is converted to, with display on and no definitions: all stages, none assumed.
+-- What a plain tree's text is converted to, with display on, no definitions and any tall field: all stages, none assumed.
 --     plain-yields    where no number refuses, the tree's LaTeX; and no number refuses a tree that fits
 use mathlib.Core.Path.{_≡_, refl, ap, _∙_}
 use mathlib.Core.Bool.{Bool, true, false}
@@ -19,7 +19,7 @@ use Rattle.spec.specs.Rows.{functionMappings, operatorReplacements}
 use Rattle.spec.specs.Words.{convertSqrt, replaceRows, convertWords, convertGreekCapitals}
 use Rattle.spec.specs.Scripts.{convertParenToBrace, wrapTextSubscripts, wrapMulticharScripts, convertScripts, convertSubscripts, convertSuperscripts}
 use Rattle.spec.specs.Fractions.{mostRounds, convertFractions}
-use Rattle.spec.specs.Finish.{escapeSetBraces, lr, convertLr, sizeDelimitersToContent, escapePercent, convertAlignment, dropThinSpaceAfterCommands}
+use Rattle.spec.specs.Finish.{fracBit, escapeSetBraces, lr, convertLr, sizeDelimitersToContent, escapePercent, convertAlignment, dropThinSpaceAfterCommands}
 use Rattle.spec.specs.Pipeline.{markSolidus, unmarkSolidus, convertSyntax, typstToLatex}
 use Rattle.spec.specs.Laws.Absent.{replace-absent, cases-absent, attach-absent, quotes-absent, thin-spaces-absent}
 use Rattle.spec.specs.Laws.Held.{in-full-none}
@@ -35,13 +35,20 @@ use Rattle.plain_printing.specs.Blocks.{texts-nowhere}
 use Rattle.plain_printing.specs.Yields.{Yields, passed-yields, then-yields, stage-yields}
 use Rattle.plain_printing.specs.Tables.{TreeFits, early-short, functions-yield, operators-yield, words-yield, capitals-yield}
 
-module _ (t : Tree) (plain : PlainTree t) where
+module _ (field : ℕ) (t : Tree) (plain : PlainTree t) where
+  -- whether the field sizes parentheses with a fraction in them
+  abbrev sized : Bool
+  sized = fracBit field
+
+  abbrev latex : List ℕ
+  latex = treeLatex sized t
+
   abbrev Goes : Result (List ℕ) → List ℕ → Type 0
-  Goes r s = Yields (TreeFits t) r s
+  Goes r s = Yields (TreeFits sized t) r s
 
   -- ---- stages that copy the formula as typed: r stands before
-  typed-short : TreeFits t → length (text t) ≤ mostSymbols
-  typed-short = early-short t 0 false false 0
+  typed-short : TreeFits sized t → length (text t) ≤ mostSymbols
+  typed-short = early-short sized t 0 false false 0
 
   copies : (f : List ℕ → List ℕ) → f (text t) ≡ text t → Goes (stage f (text t)) (text t)
   copies f e = stage-yields f (text t) e typed-short
@@ -106,8 +113,8 @@ module _ (t : Tree) (plain : PlainTree t) where
   abbrev marked : Bool → Bool → ℕ → List ℕ
   marked below above n = write (markedStyle below above) n t
 
-  marked-short : (below above : Bool) (n : ℕ) → TreeFits t → length (marked below above n) ≤ mostSymbols
-  marked-short = early-short t 30
+  marked-short : (below above : Bool) (n : ℕ) → TreeFits sized t → length (marked below above n) ≤ mostSymbols
+  marked-short = early-short sized t 30
 
   scripts-yield : (sign : ℕ) → scriptSign sign ≡ true → stopped (sign ∷ bytes "\\text{") ≡ true → (b c b′ c′ : Bool) → convertParenToBrace sign (marked b c 0) ≡ marked b′ c′ 0
       → Goes (convertScripts sign (marked b c 0)) (marked b′ c′ 0)
@@ -136,19 +143,19 @@ module _ (t : Tree) (plain : PlainTree t) where
   stacked-copies : (f : List ℕ → List ℕ) → f stacked ≡ stacked → Goes (stage f stacked) stacked
   stacked-copies f e = stage-yields f stacked e (marked-short true true (height t))
 
-  final-copies : (f : List ℕ → List ℕ) → f (treeLatex t) ≡ treeLatex t → Goes (stage f (treeLatex t)) (treeLatex t)
-  final-copies f e = stage-yields f (treeLatex t) e (λ fits. fits .short)
+  final-copies : (f : List ℕ → List ℕ) → f latex ≡ latex → Goes (stage f latex) latex
+  final-copies f e = stage-yields f latex e (λ fits. fits .short)
 
   lr-yields : Goes (convertLr stacked) stacked
   lr-yields =
       let h = absent-marked (bytes "lr(") refl true true (height t) t in
       rw (lr-is-stage stacked h) (stacked-copies (sweep lr 0 0) (lr-sweep-copies stacked h))
 
-  syntax-yields : Goes (convertSyntax true (text t)) (treeLatex t)
+  syntax-yields : Goes (convertSyntax true field (text t)) latex
   unfolding convertSyntax
   syntax-yields =
       then-yields _ (stage escapePercent)
-      (then-yields _ (stage sizeDelimitersToContent)
+      (then-yields _ (stage (sizeDelimitersToContent field))
       (then-yields _ convertLr
       (then-yields _ (stage escapeSetBraces)
       (then-yields _ (stage unmarkSolidus)
@@ -158,26 +165,26 @@ module _ (t : Tree) (plain : PlainTree t) where
       (then-yields _ convertGreekCapitals
       (then-yields _ convertWords
       (then-yields _ (replaceRows operatorReplacements)
-      (then-yields _ (replaceRows functionMappings) (copies convertSqrt (sqrt-copies (text t) (absent-typed (bytes "sqrt(") refl t))) (functions-yield t))
-      (operators-yield t))
-      (words-yield t))
-      (capitals-yield t))
+      (then-yields _ (replaceRows functionMappings) (copies convertSqrt (sqrt-copies (text t) (absent-typed (bytes "sqrt(") refl t))) (functions-yield sized t))
+      (operators-yield sized t))
+      (words-yield sized t))
+      (capitals-yield sized t))
       subscripts-yield)
       superscripts-yield)
       fractions-yield)
       (stacked-copies unmarkSolidus (replace-absent (solidus ∷ []) (bytes "/") stacked (absent-marked (solidus ∷ []) refl true true (height t) t))))
       (stacked-copies escapeSetBraces (set-braces-copy true true (height t) t)))
       lr-yields)
-      (stage-yields sizeDelimitersToContent stacked (size-plain (height t) t (le-refl (height t))) (λ fits. fits .short)))
-      (final-copies escapePercent (replace-absent (bytes "%") (bytes "\\%") (treeLatex t) (absent-final (bytes "%") refl (height t) t)))
+      (stage-yields (sizeDelimitersToContent field) stacked (size-plain field (height t) t (le-refl (height t))) (λ fits. fits .short)))
+      (final-copies escapePercent (replace-absent (bytes "%") (bytes "\\%") latex (absent-final (bytes "%") refl sized (height t) t)))
 
   -- ---- the whole
-  pub plain-yields : Goes (typstToLatex [] true (text t)) (treeLatex t)
+  pub plain-yields : Goes (typstToLatex [] true field (text t)) latex
   unfolding typstToLatex
   plain-yields =
       then-yields _ (stage dropThinSpaceAfterCommands)
       (then-yields _ (stage convertAlignment)
-      (then-yields _ (convertSyntax true) (then-yields _ (applyDefinitionsOutsideText []) calls-yield definitions-yield) syntax-yields)
+      (then-yields _ (convertSyntax true field) (then-yields _ (applyDefinitionsOutsideText []) calls-yield definitions-yield) syntax-yields)
       (final-copies convertAlignment
-      (alignment-copies (treeLatex t) (absent-final (bytes "&") refl (height t) t) (absent-final (bytes " \\\n") refl (height t) t) (ends-plain finalStyle (height t) t))))
-      (final-copies dropThinSpaceAfterCommands (thin-spaces-absent (treeLatex t) (absent-final (bytes "\\;") refl (height t) t)))
+      (alignment-copies latex (absent-final (bytes "&") refl sized (height t) t) (absent-final (bytes " \\\n") refl sized (height t) t) (ends-plain (finalStyle sized) (height t) t))))
+      (final-copies dropThinSpaceAfterCommands (thin-spaces-absent latex (absent-final (bytes "\\;") refl sized (height t) t)))

@@ -24,24 +24,24 @@ use Rattle.plain_printing.specs.Growth.{latex-longest}
 use Rattle.plain_printing.specs.Blocks.{both-nowhere}
 use Rattle.plain_printing.specs.Yields.{Yields, passed-yields, then-yields, stage-yields, held-yields}
 
--- what numbers 5 and 7 ask of a plain formula: at most 64 of its fractions stand one within another, and its LaTeX is not overgrown
-pub record TreeFits (t : Tree) : Type 0 where
+-- what numbers 5 and 7 ask of a plain formula: at most 64 of its fractions stand one within another, and its LaTeX, sized or not, is not overgrown
+pub record TreeFits (sized : Bool) (t : Tree) : Type 0 where
   pub shallow : height t ≤ mostRounds
-  pub short : length (treeLatex t) ≤ mostSymbols
+  pub short : length (treeLatex sized t) ≤ mostSymbols
 
 abbrev every : (Row → Bool) → List Row → Bool
 every test [] = true
 every test (r ∷ rs) = test r && every test rs
 
-module _ (t : Tree) where
-  pub early-short : (k : ℕ) (b c : Bool) (n : ℕ) → TreeFits t → length (write (record { greeks = k; low = b; high = c; sized = false }) n t) ≤ mostSymbols
-  early-short k b c n fits = le-trans (latex-longest k b c n t) (fits .short)
+module _ (sized : Bool) (t : Tree) where
+  pub early-short : (k : ℕ) (b c : Bool) (n : ℕ) → TreeFits sized t → length (write (record { greeks = k; low = b; high = c; sized = false }) n t) ≤ mostSymbols
+  early-short k b c n fits = le-trans (latex-longest k b c sized n t) (fits .short)
 
-  typed-short : (k : ℕ) → TreeFits t → length (write (typedStyle k) 0 t) ≤ mostSymbols
+  typed-short : (k : ℕ) → TreeFits sized t → length (write (typedStyle k) 0 t) ≤ mostSymbols
   typed-short k fits = early-short k false false 0 fits
 
   -- ---- functions and operators
-  rows-yield : (rs : List Row) → every (λ r. stopped (r .typst)) rs ≡ true → Yields (TreeFits t) (replaceRows rs (text t)) (text t)
+  rows-yield : (rs : List Row) → every (λ r. stopped (r .typst)) rs ≡ true → Yields (TreeFits sized t) (replaceRows rs (text t)) (text t)
   unfolding replaceRows
   rows-yield [] h = passed-yields (text t)
   rows-yield (r ∷ rs) h =
@@ -50,14 +50,14 @@ module _ (t : Tree) where
       (stage-yields (replace (r .typst) (r .latex)) (text t) (replace-absent (r .typst) (r .latex) (text t) (absent-typed (r .typst) here t)) (typed-short 0))
       (rows-yield rs (and-right (stopped (r .typst)) (every (λ r. stopped (r .typst)) rs) h))
 
-  pub functions-yield : Yields (TreeFits t) (replaceRows functionMappings (text t)) (text t)
+  pub functions-yield : Yields (TreeFits sized t) (replaceRows functionMappings (text t)) (text t)
   functions-yield = rows-yield functionMappings refl
 
-  pub operators-yield : Yields (TreeFits t) (replaceRows operatorReplacements (text t)) (text t)
+  pub operators-yield : Yields (TreeFits sized t) (replaceRows operatorReplacements (text t)) (text t)
   operators-yield = rows-yield operatorReplacements refl
 
   -- ---- Greek names
-  greek-yields : (rs : List Row) (k : ℕ) → allRowsAt passRule k rs ≡ true → Yields (TreeFits t) (heldRows greek rs (unheld (write (typedStyle k) 0 t))) (unheld (write (typedStyle (length rs + k)) 0 t))
+  greek-yields : (rs : List Row) (k : ℕ) → allRowsAt passRule k rs ≡ true → Yields (TreeFits sized t) (heldRows greek rs (unheld (write (typedStyle k) 0 t))) (unheld (write (typedStyle (length rs + k)) 0 t))
   unfolding heldRows
   greek-yields [] k h = rw (zero-add k) (passed-yields (unheld (write (typedStyle k) 0 t)))
   greek-yields (r ∷ rs) k h =
@@ -71,7 +71,7 @@ module _ (t : Tree) where
   abbrev marked : List ℕ
   marked = write (markedStyle false false) 0 t
 
-  word-yields : (rs : List Row) → every wordRow rs ≡ true → Yields (TreeFits t) (heldRows wordOrLiteral rs (unheld marked)) (unheld marked)
+  word-yields : (rs : List Row) → every wordRow rs ≡ true → Yields (TreeFits sized t) (heldRows wordOrLiteral rs (unheld marked)) (unheld marked)
   unfolding heldRows
   word-yields [] h = passed-yields (unheld marked)
   word-yields (r ∷ rs) h =
@@ -79,18 +79,18 @@ module _ (t : Tree) where
       (held-yields (sweep (wordOrLiteral r) 0 0) marked (word-row-copies false false 0 t r (and-left (wordRow r) (every wordRow rs) h)) (typed-short 30))
       (word-yields rs (and-right (wordRow r) (every wordRow rs) h))
 
-  names-yield : Yields (TreeFits t) (heldRows greek greekLetters (holdBoth (text t))) (unheld marked)
+  names-yield : Yields (TreeFits sized t) (heldRows greek greekLetters (holdBoth (text t))) (unheld marked)
   names-yield = rw (both-nowhere (text t) (absent-typed (bytes "\\text{") refl t) (absent-typed (bytes "\\mathrm{") refl t)) (greek-yields greekLetters 0 passes-hold)
 
-  back-yields : Yields (TreeFits t) (putBack (unheld marked)) marked
+  back-yields : Yields (TreeFits sized t) (putBack (unheld marked)) marked
   back-yields = rw (in-full-none marked) (passed-yields marked)
 
-  pub words-yield : Yields (TreeFits t) (convertWords (text t)) marked
+  pub words-yield : Yields (TreeFits sized t) (convertWords (text t)) marked
   unfolding convertWords
   words-yield = then-yields _ putBack (then-yields _ (heldRows wordOrLiteral wordMappings) names-yield (word-yields wordMappings refl)) back-yields
 
   -- ---- Phi and Psi
-  capital-yields : (rs : List Row) → every (λ r. twoLetters (r .typst)) rs ≡ true → Yields (TreeFits t) (capitals rs marked) marked
+  capital-yields : (rs : List Row) → every (λ r. twoLetters (r .typst)) rs ≡ true → Yields (TreeFits sized t) (capitals rs marked) marked
   unfolding capitals
   capital-yields [] h = passed-yields marked
   capital-yields (r ∷ rs) h =
@@ -98,5 +98,5 @@ module _ (t : Tree) where
       (stage-yields (sweep (capital r) 0 0) marked (capital-row-copies false false 0 t r (and-left (twoLetters (r .typst)) (every (λ r. twoLetters (r .typst)) rs) h)) (typed-short 30))
       (capital-yields rs (and-right (twoLetters (r .typst)) (every (λ r. twoLetters (r .typst)) rs) h))
 
-  pub capitals-yield : Yields (TreeFits t) (capitals greekCapitals marked) marked
+  pub capitals-yield : Yields (TreeFits sized t) (capitals greekCapitals marked) marked
   capitals-yield = capital-yields greekCapitals refl

@@ -162,16 +162,17 @@ typstStyle = typedStyle 0
 abbrev pub markedStyle : Bool → Bool → Style
 markedStyle below above = record { greeks = 30; low = below; high = above; sized = false }
 
--- before the fractions, and at the end
+-- before the fractions
 abbrev pub bracedStyle : Style
 bracedStyle = markedStyle true true
 
-abbrev pub finalStyle : Style
-finalStyle = record { greeks = 30; low = true; high = true; sized = true }
+-- at the end: are parentheses with a fraction in them sized?
+abbrev pub finalStyle : Bool → Style
+finalStyle sized = record { greeks = 30; low = true; high = true; sized = sized }
 
 -- the formula, and its LaTeX
 abbrev pub text : Tree → List ℕ
 text t = write typstStyle 0 t
 
-abbrev pub treeLatex : Tree → List ℕ
-treeLatex t = write finalStyle (height t) t
+abbrev pub treeLatex : Bool → Tree → List ℕ
+treeLatex sized t = write (finalStyle sized) (height t) t

@@ -7,11 +7,11 @@ use native.Mathlib.Nat.{le-refl}
 use native.Mathlib.Omega.{arith}
 use borrow.Author.Tests.{le-ltb, not-true}
 use Rattle.spec.specs.Symbols.{bytes}
+use Rattle.spec.specs.Finish.{fracBit}
 use Rattle.spec.specs.Grammar
 use Rattle.spec.specs.Grammar.{Atom, variable, greek, number, Sum, product, plus, minus, Product, factor, beside, Factor, scripted, fraction, group, Operand, atom, enclosed, Script, bare, symbol, inner}
 use Rattle.spec.specs.Laws.Booleans.{and-left, and-right}
-use Rattle.plain_printing.specs.Tree.{Tree, Join, Style, atomWriting, joinText, operand, parens, lone, slashless, height, heightScript, typstStyle, write, writeScript, stacked, text, treeLatex}
-use Rattle.plain_printing.specs.Unlatex.{styled}
+use Rattle.plain_printing.specs.Tree.{Tree, Join, Style, atomWriting, joinText, operand, parens, lone, slashless, height, heightScript, typstStyle, finalStyle, write, writeScript, stacked, text, treeLatex}
 use Rattle.plain_printing.specs.TreeOf.{treeOf, productTree, onto, factorTree, operandTree, scriptTree, slashless-tree, lone-tree}
 
 -- the factors of a product before a row
@@ -85,10 +85,10 @@ onto-height : (p : Product) (j : Join) (t : Tree) → height (onto p j t) ≡ ma
 onto-height (factor f) j t = refl
 onto-height (beside f p) j t = let later : height (onto p j t) ≡ max (height (productTree p)) (height t) = onto-height p j t in omega arith
 
-latex-fraction : (b : Bool) (n : ℕ) (t u : Tree) (x y : List ℕ) → suc (max (height t) (height u)) ≤ n → ((m : ℕ) → height t ≤ m → write (styled b) m t ≡ x)
-    → ((m : ℕ) → height u ≤ m → write (styled b) m u ≡ y) → write (styled b) n (Tree.fraction t u) ≡ bytes "\\frac{" ++ x ++ bytes "}{" ++ y ++ bytes "}"
+latex-fraction : (b : Bool) (n : ℕ) (t u : Tree) (x y : List ℕ) → suc (max (height t) (height u)) ≤ n → ((m : ℕ) → height t ≤ m → write (finalStyle b) m t ≡ x)
+    → ((m : ℕ) → height u ≤ m → write (finalStyle b) m u ≡ y) → write (finalStyle b) n (Tree.fraction t u) ≡ bytes "\\frac{" ++ x ++ bytes "}{" ++ y ++ bytes "}"
 latex-fraction b zero t u x y d p q = absurd (omega arith)
-latex-fraction b (suc n) t u x y d p q = rw (stacked (styled b) n t u (omega arith), p n (omega arith), q n (omega arith)) (simp append-assoc)
+latex-fraction b (suc n) t u x y d p q = rw (stacked (finalStyle b) n t u (omega arith), p n (omega arith), q n (omega arith)) (simp append-assoc)
 
 latex-parens : (b c : Bool) (x : List ℕ) → b ≡ c → parens b x ≡ Grammar.parensLatex c x
 latex-parens true c x e = rw (← e)
@@ -97,27 +97,27 @@ latex-parens false c x e = rw (← e)
 mutual
   unfolding write writeScript Grammar.sumLatex Grammar.productLatex Grammar.factorLatex Grammar.operandLatex Grammar.scriptLatex
 
-  latex-sum : (s : Sum) (b : Bool) (n : ℕ) → Grammar.proper s ≡ true → height (treeOf s) ≤ n → write (styled b) n (treeOf s) ≡ Grammar.sumLatex b s
+  latex-sum : (s : Sum) (b : Bool) (n : ℕ) → Grammar.proper s ≡ true → height (treeOf s) ≤ n → write (finalStyle b) n (treeOf s) ≡ Grammar.sumLatex b s
   latex-sum (product p) b n h d = latex-product p b n h d
   latex-sum (plus p s) b n h d =
       let deepest = onto-height p Join.plus (treeOf s) in
-      write-onto (styled b) n p Join.plus (treeOf s)
+      write-onto (finalStyle b) n p Join.plus (treeOf s)
       ∙ ap₂ (λ (x y : List ℕ). x ++ bytes " + " ++ y) (latex-product p b n (and-left (Grammar.properProduct p) (Grammar.proper s) h) (omega arith))
       (latex-sum s b n (and-right (Grammar.properProduct p) (Grammar.proper s) h) (omega arith))
   latex-sum (minus p s) b n h d =
       let deepest = onto-height p Join.minus (treeOf s) in
-      write-onto (styled b) n p Join.minus (treeOf s)
+      write-onto (finalStyle b) n p Join.minus (treeOf s)
       ∙ ap₂ (λ (x y : List ℕ). x ++ bytes " - " ++ y) (latex-product p b n (and-left (Grammar.properProduct p) (Grammar.proper s) h) (omega arith))
       (latex-sum s b n (and-right (Grammar.properProduct p) (Grammar.proper s) h) (omega arith))
 
-  latex-product : (p : Product) (b : Bool) (n : ℕ) → Grammar.properProduct p ≡ true → height (productTree p) ≤ n → write (styled b) n (productTree p) ≡ Grammar.productLatex b p
+  latex-product : (p : Product) (b : Bool) (n : ℕ) → Grammar.properProduct p ≡ true → height (productTree p) ≤ n → write (finalStyle b) n (productTree p) ≡ Grammar.productLatex b p
   latex-product (factor f) b n h d = latex-factor f b n h d
   latex-product (beside f p) b n h d =
       ap₂ (λ (x y : List ℕ). x ++ (bytes " " ++ y)) (latex-factor f b n (and-left (Grammar.properFactor f) (Grammar.properProduct p) h) (omega arith))
       (latex-product p b n (and-right (Grammar.properFactor f) (Grammar.properProduct p) h) (omega arith))
       ∙ sym (append-assoc (Grammar.factorLatex b f) (bytes " ") (Grammar.productLatex b p))
 
-  latex-factor : (f : Factor) (b : Bool) (n : ℕ) → Grammar.properFactor f ≡ true → height (factorTree f) ≤ n → write (styled b) n (factorTree f) ≡ Grammar.factorLatex b f
+  latex-factor : (f : Factor) (b : Bool) (n : ℕ) → Grammar.properFactor f ≡ true → height (factorTree f) ≤ n → write (finalStyle b) n (factorTree f) ≡ Grammar.factorLatex b f
   latex-factor (scripted a l h) b n k d =
       rw (
         latex-atom a,
@@ -130,19 +130,19 @@ mutual
       (λ m z. latex-operand n₁ b m (and-left (Grammar.properOperand n₁) (Grammar.properOperand d₁) k) z)
       (λ m z. latex-operand d₁ b m (and-right (Grammar.properOperand n₁) (Grammar.properOperand d₁) k) z)
   latex-factor (group s) b n k d =
-      latex-parens (b && not (slashless (treeOf s))) (b && not (Grammar.slashless s)) (write (styled b) n (treeOf s)) (ap (λ c. b && not c) (slashless-tree s))
+      latex-parens (b && not (slashless (treeOf s))) (b && not (Grammar.slashless s)) (write (finalStyle b) n (treeOf s)) (ap (λ c. b && not c) (slashless-tree s))
       ∙ ap (Grammar.parensLatex (b && not (Grammar.slashless s))) (latex-sum s b n k d)
 
-  latex-operand : (o : Operand) (b : Bool) (n : ℕ) → Grammar.properOperand o ≡ true → height (operandTree o) ≤ n → write (styled b) n (operandTree o) ≡ Grammar.operandLatex b o
+  latex-operand : (o : Operand) (b : Bool) (n : ℕ) → Grammar.properOperand o ≡ true → height (operandTree o) ≤ n → write (finalStyle b) n (operandTree o) ≡ Grammar.operandLatex b o
   latex-operand (atom a) b n k d = append-nil (atomWriting 30 a) ∙ latex-atom a
   latex-operand (enclosed s) b n k d = latex-sum s b n (and-right (not (Grammar.loneAtom s)) (Grammar.proper s) k) d
 
   latex-script : (c : Script) (b : Bool) (n : ℕ) (sign : List ℕ) → Grammar.properScript c ≡ true → heightScript (scriptTree c) ≤ n
-      → writeScript (styled b) n sign true (scriptTree c) ≡ Grammar.scriptLatex sign c
+      → writeScript (finalStyle b) n sign true (scriptTree c) ≡ Grammar.scriptLatex sign c
   latex-script bare b n sign k d = refl
   latex-script (symbol c e) b n sign k d = refl
   latex-script (inner s) b n sign k d = rw (latex-sum s false n (and-right (Grammar.scriptless s) (Grammar.proper s) k) d) (simp append-assoc)
 
-pub latex-tree : (s : Sum) → Grammar.proper s ≡ true → treeLatex (treeOf s) ≡ Grammar.latex s
+pub latex-tree : (field : ℕ) (s : Sum) → Grammar.proper s ≡ true → treeLatex (fracBit field) (treeOf s) ≡ Grammar.latex field s
 unfolding Grammar.latex
-latex-tree s h = latex-sum s true (height (treeOf s)) h (le-refl (height (treeOf s)))
+latex-tree field s h = latex-sum s (fracBit field) (height (treeOf s)) h (le-refl (height (treeOf s)))

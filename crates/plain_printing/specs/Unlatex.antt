@@ -13,7 +13,7 @@ use Rattle.spec.specs.Symbols.{bytes, letter, digit, alnum, all, starts}
 use Rattle.spec.specs.Grammar.{Atom, variable, greek, number, greekNames, greekName}
 use Rattle.spec.specs.Laws.Booleans.{and-left, and-right, or-right}
 use Rattle.spec.specs.Laws.Names.{allRows, row-rule}
-use Rattle.plain_printing.specs.Tree.{Tree, TreeScript, Style, Join, beside, plus, minus, atom, fraction, group, row, bare, symbol, inner, atomWriting, joinText, operand, lone, parens, slashless, height, heightScript, typstStyle, write, writeScript, stacked, text, treeLatex}
+use Rattle.plain_printing.specs.Tree.{Tree, TreeScript, Join, beside, plus, minus, atom, fraction, group, row, bare, symbol, inner, atomWriting, joinText, operand, lone, parens, slashless, height, heightScript, typstStyle, finalStyle, write, writeScript, stacked, text, treeLatex}
 use Rattle.plain_printing.specs.Classes.{apart, all-weaken}
 use Rattle.plain_printing.specs.Written.{greek-letters}
 
@@ -84,7 +84,7 @@ clash-step true e s h f = rw (f refl)
 clash-step false true s h f = absurd (true≢false (sym h))
 clash-step false false s h f = and-false s
 
-clash-starts : (w v r : List ℕ) → clash w v ≡ true → starts w (v ++ r) ≡ false
+pub clash-starts : (w v r : List ℕ) → clash w v ≡ true → starts w (v ++ r) ≡ false
 clash-starts [] v r h = absurd (true≢false (sym h))
 clash-starts (k ∷ w) [] r h = absurd (true≢false (sym h))
 clash-starts (k ∷ w) (x ∷ v) r h = clash-step (clash w v) (eqb x k) (starts w (v ++ r)) h (clash-starts w v r)
@@ -131,10 +131,6 @@ atom-bare (number ds e b) = all-weaken digit bareSymbol (λ x h. alnum-bare x (d
 bare-atom : (a : Atom) (r : List ℕ) → bareAhead (atomWriting 30 a ++ r) ≡ bareAhead r
 bare-atom a r = bare-run (atomWriting 30 a) (atom-bare a) r
 
--- before and after sizing
-abbrev pub styled : Bool → Style
-styled b = record { greeks = 30; low = true; high = true; sized = b }
-
 ahead-parens : (c : Bool) (s r : List ℕ) → bareAhead (parens c s ++ r) ≡ false
 ahead-parens true s r = refl
 ahead-parens false s r = refl
@@ -145,7 +141,7 @@ ahead-join plus r = refl
 ahead-join minus r = refl
 
 ahead-scripts : (b : Bool) (n : ℕ) (a : Atom) (l h : TreeScript) (r : List ℕ)
-    → bareAhead (writeScript (styled b) n (bytes "_") true l ++ (writeScript (styled b) n (bytes "^") true h ++ r)) ≡ lone (atom a l h) && bareAhead r
+    → bareAhead (writeScript (finalStyle b) n (bytes "_") true l ++ (writeScript (finalStyle b) n (bytes "^") true h ++ r)) ≡ lone (atom a l h) && bareAhead r
 unfolding writeScript
 ahead-scripts b n a bare bare r = refl
 ahead-scripts b n a bare (symbol c e) r = refl
@@ -154,15 +150,15 @@ ahead-scripts b n a (symbol c e) h r = refl
 ahead-scripts b n a (inner t) h r = refl
 
 -- a stacked text is a lone atom's or meets another symbol before any closing brace
-ahead : (b : Bool) (n : ℕ) (t : Tree) → height t ≤ n → (r : List ℕ) → bareAhead (write (styled b) n t ++ r) ≡ lone t && bareAhead r
+ahead : (b : Bool) (n : ℕ) (t : Tree) → height t ≤ n → (r : List ℕ) → bareAhead (write (finalStyle b) n t ++ r) ≡ lone t && bareAhead r
 unfolding write
 ahead b n (atom a l h) d r = simp append-assoc (bare-atom a _ ∙ ahead-scripts b n a l h r)
 ahead b zero (fraction t u) d r = absurd (omega arith)
-ahead b (suc n) (fraction t u) d r = rw (stacked (styled b) n t u (omega arith))
-ahead b n (group t) d r = ahead-parens (b && not (slashless t)) (write (styled b) n t) r
+ahead b (suc n) (fraction t u) d r = rw (stacked (finalStyle b) n t u (omega arith))
+ahead b n (group t) d r = ahead-parens (b && not (slashless t)) (write (finalStyle b) n t) r
 ahead b n (row t j u) d r = simp append-assoc (ahead b n t (omega arith) _ ∙ ap (λ c. lone t && c) (ahead-join j _) ∙ and-false (lone t))
 
-ahead-closed : (b : Bool) (n : ℕ) (t : Tree) → height t ≤ n → (r : List ℕ) → bareAhead (write (styled b) n t ++ code "}" ∷ r) ≡ lone t
+ahead-closed : (b : Bool) (n : ℕ) (t : Tree) → height t ≤ n → (r : List ℕ) → bareAhead (write (finalStyle b) n t ++ code "}" ∷ r) ≡ lone t
 ahead-closed b n t d r = ahead b n t d (code "}" ∷ r) ∙ and-true (lone t)
 
 -- ---- reading back
@@ -171,14 +167,14 @@ operand-parts true s r = refl
 operand-parts false s r = simp append-assoc
 
 abbrev Reads : Bool → ℕ → Tree → Type 0
-Reads b n t = (fs : List Frame) (r : List ℕ) → unlatex 0 fs (write (styled b) n t ++ r) ≡ text t ++ unlatex 0 fs r
+Reads b n t = (fs : List Frame) (r : List ℕ) → unlatex 0 fs (write (finalStyle b) n t ++ r) ≡ text t ++ unlatex 0 fs r
 
 abbrev ReadsScript : Bool → ℕ → ℕ → TreeScript → Type 0
 ReadsScript b n m c = (fs : List Frame) (r : List ℕ)
-    → unlatex 0 fs (writeScript (styled b) n (m ∷ []) true c ++ r) ≡ writeScript typstStyle 0 (m ∷ []) false c ++ unlatex 0 fs r
+    → unlatex 0 fs (writeScript (finalStyle b) n (m ∷ []) true c ++ r) ≡ writeScript typstStyle 0 (m ∷ []) false c ++ unlatex 0 fs r
 
 reads-parens : (c b : Bool) (n : ℕ) (t : Tree) → Reads b n t → (fs : List Frame) (r : List ℕ)
-    → unlatex 0 fs (parens c (write (styled b) n t) ++ r) ≡ code "(" ∷ (text t ++ code ")" ∷ unlatex 0 fs r)
+    → unlatex 0 fs (parens c (write (finalStyle b) n t) ++ r) ≡ code "(" ∷ (text t ++ code ")" ∷ unlatex 0 fs r)
 unfolding unlatex
 reads-parens true b n t reads fs r = simp append-assoc (ap {B = List ℕ} (λ l. code "(" ∷ l) (reads fs (bytes "\\right)" ++ r)))
 reads-parens false b n t reads fs r = simp append-assoc (ap {B = List ℕ} (λ l. code "(" ∷ l) (reads fs (code ")" ∷ r)))
@@ -192,11 +188,11 @@ reads-join minus fs r = refl
 reads-fraction : (b : Bool) (n : ℕ) (t u : Tree) → height t ≤ n → height u ≤ n → Reads b n t → Reads b n u → Reads b (suc n) (fraction t u)
 unfolding write unlatex
 reads-fraction b n t u d e num den fs r =
-    let end : List ℕ = write (styled b) n u ++ code "}" ∷ r in
+    let end : List ℕ = write (finalStyle b) n u ++ code "}" ∷ r in
     let below : List ℕ = openingParen (lone u) ++ (text u ++ (closingParen (lone u) ++ unlatex 0 fs r)) in
     let denominator-read : unlatex 0 (numerator (lone t) ∷ fs) (code "}" ∷ code "{" ∷ end) ≡ closingParen (lone t) ++ code "/" ∷ below =
     rw (ahead-closed b n u e r) (ap (λ (l : List ℕ). closingParen (lone t) ++ code "/" ∷ (openingParen (lone u) ++ l)) (den (denominator (lone u) ∷ fs) (code "}" ∷ r))) in
-    rw (stacked (styled b) n t u d)
+    rw (stacked (finalStyle b) n t u d)
     (simp append-assoc
     (rw (ahead-closed b n t d (code "{" ∷ end), operand-parts (lone t) (text t) (code "/" ∷ (operand (lone u) (text u) ++ unlatex 0 fs r)), operand-parts (lone u) (text u) (unlatex 0 fs r))
     (ap (λ (l : List ℕ). openingParen (lone t) ++ l) (num (numerator (lone t) ∷ fs) (code "}" ∷ code "{" ∷ end) ∙ ap (λ (l : List ℕ). text t ++ l) denominator-read))))
@@ -205,15 +201,15 @@ reads-row : (b : Bool) (n : ℕ) (t : Tree) (j : Join) (u : Tree) → Reads b n 
 unfolding write
 reads-row b n t j u left right fs r =
     simp append-assoc
-    (left fs (joinText j ++ (write (styled b) n u ++ r))
-    ∙ ap (λ (l : List ℕ). text t ++ l) (reads-join j fs (write (styled b) n u ++ r) ∙ ap (λ (l : List ℕ). joinText j ++ l) (right fs r)))
+    (left fs (joinText j ++ (write (finalStyle b) n u ++ r))
+    ∙ ap (λ (l : List ℕ). text t ++ l) (reads-join j fs (write (finalStyle b) n u ++ r) ∙ ap (λ (l : List ℕ). joinText j ++ l) (right fs r)))
 
 reads-atom : (b : Bool) (n : ℕ) (a : Atom) (l h : TreeScript) → ReadsScript b n (code "_") l → ReadsScript b n (code "^") h → Reads b n (atom a l h)
 unfolding write
 reads-atom b n a l h low high fs r =
-    let raised : List ℕ = writeScript (styled b) n (bytes "^") true h ++ r in
+    let raised : List ℕ = writeScript (finalStyle b) n (bytes "^") true h ++ r in
     simp append-assoc
-    (copy-atom a fs (writeScript (styled b) n (bytes "_") true l ++ raised)
+    (copy-atom a fs (writeScript (finalStyle b) n (bytes "_") true l ++ raised)
     ∙ ap (λ (x : List ℕ). atomWriting 0 a ++ x) (low fs raised ∙ ap (λ (x : List ℕ). writeScript typstStyle 0 (bytes "_") false l ++ x) (high fs r)))
 
 -- the sign of a script is copied
@@ -239,7 +235,7 @@ reads-symbol b n m signs c e fs r = signs fs (c ∷ r) ∙ ap {B = List ℕ} (λ
 reads-inner : (b : Bool) (n m : ℕ) → Signs m → (t : Tree) → Reads false n t → ReadsScript b n m (inner t)
 unfolding writeScript unlatex
 reads-inner b n m signs t reads fs r =
-    simp append-assoc (signs fs (code "{" ∷ (write (styled false) n t ++ code "}" ∷ r)) ∙ ap {B = List ℕ} (λ l. m ∷ code "(" ∷ l) (reads (script ∷ fs) (code "}" ∷ r)))
+    simp append-assoc (signs fs (code "{" ∷ (write (finalStyle false) n t ++ code "}" ∷ r)) ∙ ap {B = List ℕ} (λ l. m ∷ code "(" ∷ l) (reads (script ∷ fs) (code "}" ∷ r)))
 
 mutual
   unfolding write
@@ -259,10 +255,10 @@ mutual
   reads-script b n m signs (inner t) d = reads-inner b n m signs t (reads-tree false n t d)
 
 -- the formula from its LaTeX
-pub unlatex-latex : (t : Tree) → unlatex 0 [] (treeLatex t) ≡ text t
+pub unlatex-latex : (b : Bool) (t : Tree) → unlatex 0 [] (treeLatex b t) ≡ text t
 unfolding unlatex
-unlatex-latex t = ap (unlatex 0 []) (sym (append-nil (treeLatex t))) ∙ reads-tree true (height t) t (le-refl (height t)) [] [] ∙ append-nil (text t)
+unlatex-latex b t = ap (unlatex 0 []) (sym (append-nil (treeLatex b t))) ∙ reads-tree b (height t) t (le-refl (height t)) [] [] ∙ append-nil (text t)
 
--- two plain formulas that print alike are one
-pub latex-injective : (t u : Tree) → treeLatex t ≡ treeLatex u → text t ≡ text u
-latex-injective t u e = sym (unlatex-latex t) ∙ ap (unlatex 0 []) e ∙ unlatex-latex u
+-- two plain formulas that print alike, each sized or not, are one
+pub latex-injective : (b c : Bool) (t u : Tree) → treeLatex b t ≡ treeLatex c u → text t ≡ text u
+latex-injective b c t u e = sym (unlatex-latex b t) ∙ ap (unlatex 0 []) e ∙ unlatex-latex c u

@@ -29,7 +29,14 @@ fn convert(formula: &[u8], line: &mut [u8]) -> usize
     ensures { λ r. ⌜ Counts r (now (line .exit)) ⌝ }
 {
     let mut work = [0; 32_768];
-    let answer = math_conv::typst_to_latex(formula, b"", true, &mut work, &mut line[1..63]);
+    let answer = math_conv::typst_to_latex(
+        formula,
+        b"",
+        true,
+        text::ALL_TALL,
+        &mut work,
+        &mut line[1..63],
+    );
     let Answer::Done(n) = answer else {
         return 0;
     };

@@ -17,6 +17,7 @@ ghost use Rattle.replay.specs.Recorded.{Vouched, Agrees, recorded};
 // What a call is lent, and the number that it is to answer, 0 for done.
 pub struct Setting {
     pub display: bool,
+    pub field: u32,
     pub work: usize,
     pub output: usize,
     pub number: u64,
@@ -61,6 +62,7 @@ fn replay_recorded(
     let found = call(
         Setting {
             display: case.display,
+            field: case.field,
             work: case.work,
             output: case.output,
             number: case.number,
@@ -82,6 +84,7 @@ fn replay_full(i: usize, case: Case, formula: &[u8], table: &[u8], latex: &[u8],
     let found = call(
         Setting {
             display: case.display,
+            field: case.field,
             work: case.work,
             output: latex.len(),
             number: 0,
@@ -113,6 +116,7 @@ fn replay_short(
     let found = call(
         Setting {
             display: case.display,
+            field: case.field,
             work: case.work,
             output: latex.len() - 1,
             number: 10,
@@ -140,6 +144,7 @@ fn replay_narrow(
     let found = call(
         Setting {
             display: case.display,
+            field: case.field,
             work: 32_767,
             output: case.output,
             number: 4,
@@ -163,6 +168,7 @@ fn call(setting: Setting, formula: &[u8], table: &[u8], latex: &[u8], old: &[u8]
     let mut output = [0; MOST_OUTPUT];
     call_on(
         setting.display,
+        setting.field,
         setting.number,
         formula,
         table,
@@ -176,6 +182,7 @@ fn call(setting: Setting, formula: &[u8], table: &[u8], latex: &[u8], old: &[u8]
 // Calls the entry on buffers with old contents.
 fn call_on(
     display: bool,
+    field: u32,
     number: u64,
     formula: &[u8],
     table: &[u8],
@@ -191,7 +198,7 @@ fn call_on(
     let o = output.len();
     bytes::copy(&old[..w], work);
     bytes::copy(&old[..o], output);
-    let answer = math_conv::typst_to_latex(formula, table, display, work, output);
+    let answer = math_conv::typst_to_latex(formula, table, display, field, work, output);
     if !is_left_right(number, work, &old[..w]) {
         return Difference::Work;
     }

@@ -12,12 +12,13 @@ pub const MOST_OUTPUT: usize = 8_192;
 const MOST: usize = 57_344;
 
 // What stands before a case's bytes.
-const HEADER: usize = 17;
+const HEADER: usize = 18;
 
-// The family, the display, the lengths of the buffers, of the formula, the table and the LaTeX; the number, 0 for done.
+// The family, the display, the tall field, the lengths of the buffers, of the formula, the table and the LaTeX; the number, 0 for done.
 pub struct Case {
     pub family: u8,
     pub display: bool,
+    pub field: u32,
     pub work: usize,
     pub output: usize,
     pub formula: usize,
@@ -44,7 +45,7 @@ pub fn read_head(fd: i32) -> Head {
     if io::read_full(fd, &mut count) < 4 {
         return Head::Other;
     }
-    if !check::same(&line, b"jistranu cases 1\n") {
+    if !check::same(&line, b"jistranu cases 2\n") {
         return Head::Other;
     }
     Head::Cases(four(&count, 0))
@@ -77,17 +78,18 @@ pub fn is_at_end(fd: i32) -> bool {
 }
 
 fn case_of(header: &[u8]) -> Case
-    requires { ⌜ 17 ≤ length (now header) ⌝ }
+    requires { ⌜ 18 ≤ length (now header) ⌝ }
 {
     Case {
         family: header[0],
         display: header[1] == 1,
-        work: four(header, 2),
-        output: two(header, 6),
-        formula: two(header, 8),
-        table: four(header, 10),
-        number: text_symbols::value(header[14]) as u64,
-        latex: two(header, 15),
+        field: text_symbols::value(header[2]) as u32,
+        work: four(header, 3),
+        output: two(header, 7),
+        formula: two(header, 9),
+        table: four(header, 11),
+        number: text_symbols::value(header[15]) as u64,
+        latex: two(header, 16),
     }
 }
 

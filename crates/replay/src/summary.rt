@@ -3,14 +3,17 @@ use super::calls::Difference;
 use super::cases::Case;
 use libc::STDOUT_FILENO;
 
-// A tally has the cases by their number, then those with display off, those with definitions and those that went wrong.
-const OFF: usize = 11;
+// A tally has the cases by their number, up to 15, then those with display off, those under another tall field than 31, those with definitions and
+// those that went wrong.
+const OFF: usize = 16;
 
-const DEFINED: usize = 12;
+const OTHER_FIELD: usize = 17;
 
-pub const WRONG: usize = 13;
+const DEFINED: usize = 18;
 
-pub const TALLY: usize = 14;
+pub const WRONG: usize = 19;
+
+pub const TALLY: usize = 20;
 
 pub fn count_one(tally: &mut [u64; TALLY], at: usize) {
     if at < TALLY {
@@ -20,11 +23,14 @@ pub fn count_one(tally: &mut [u64; TALLY], at: usize) {
 
 pub fn note(tally: &mut [u64; TALLY], case: Case) {
     let number = case.number;
-    if number <= 10 {
+    if number <= 15 {
         count_one(tally, number as usize);
     }
     if !case.display {
         count_one(tally, OFF);
+    }
+    if case.field != text::ALL_TALL {
+        count_one(tally, OTHER_FIELD);
     }
     if 0 < case.table {
         count_one(tally, DEFINED);
@@ -36,12 +42,14 @@ pub fn write_summary(cases: u64, tally: &[u64; TALLY]) {
     for number in 1..11 {
         say_refused(tally[number], number as u64);
     }
+    say_refused(tally[15], 15);
 }
 
 fn write_kinds(cases: u64, tally: &[u64; TALLY]) {
     say_count(cases, b"cases");
     say_count(tally[WRONG], b"wrong");
     say_count(tally[OFF], b"with display off");
+    say_count(tally[OTHER_FIELD], b"under another tall field than 31");
     say_count(tally[DEFINED], b"with definitions");
     say_count(
         tally[0],

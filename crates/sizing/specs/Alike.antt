@@ -58,29 +58,29 @@ starts-alike (k ∷ w) e (group {o} {p} c f) =
 sized-alike : {o p : List ℕ} → Alike o p → alreadySized o ≡ alreadySized p
 sized-alike a = ap₂ (λ b c. b || c) (starts-alike (reverse (bytes "\\left")) refl a) (starts-alike (reverse (bytes "\\right")) refl a)
 
-tall-alike : {o p : List ℕ} (x : ℕ) (s : List ℕ) → Alike o p → tallGroup o x s ≡ tallGroup p x s
+tall-alike : {o p : List ℕ} (field x : ℕ) (s : List ℕ) → Alike o p → tallGroup field o x s ≡ tallGroup field p x s
 unfolding tallGroup
-tall-alike x s a = ap (λ t. elim t [ true ↦ none | false ↦ groupWith x s (closing x) ]) (sized-alike a)
+tall-alike field x s a = ap (λ t. elim t [ true ↦ none | false ↦ groupWith field x s (closing x) ]) (sized-alike a)
 
-abbrev Smaller : ℕ → Type 0
-Smaller k = (o p s : List ℕ) → Alike o p → sizeWith k o s ≡ sizeWith k p s
+abbrev Smaller : ℕ → ℕ → Type 0
+Smaller field k = (o p s : List ℕ) → Alike o p → sizeWith field k o s ≡ sizeWith field k p s
 
-with-alike : (k : ℕ) (o p s : List ℕ) → Alike o p → sizeWith k o s ≡ sizeWith k p s
+with-alike : (field k : ℕ) (o p s : List ℕ) → Alike o p → sizeWith field k o s ≡ sizeWith field k p s
 unfolding sizeWith sizeStep
-with-alike zero o p s a = refl
-with-alike (suc k) o p [] a = refl
-with-alike (suc k) o p (x ∷ s) a = script (scriptGroup x s) (with-alike k)
+with-alike field zero o p s a = refl
+with-alike field (suc k) o p [] a = refl
+with-alike field (suc k) o p (x ∷ s) a = script (scriptGroup x s) (with-alike field k)
   where
-    step : (q : Option Group) → Smaller k → groupStep (sizeWith k) o x s q ≡ groupStep (sizeWith k) p x s q
+    step : (q : Option Group) → Smaller field k → groupStep (sizeWith field k) o x s q ≡ groupStep (sizeWith field k) p x s q
     step none again = ap (λ t. x ∷ t) (again (x ∷ o) (x ∷ p) s (more x a))
     step (some g) again =
-        let m = leftRight x (g .closer) (sizeWith k [] (g .content)) in
+        let m = leftRight x (g .closer) (sizeWith field k [] (g .content)) in
         ap (λ t. m ++ t) (again (reverseAux m o) (reverseAux m p) (g .behind) (alike-reverse m a))
 
-    script : (q : Option (List ℕ)) → Smaller k → scriptStep (sizeWith k) o x s q ≡ scriptStep (sizeWith k) p x s q
-    script none again = ap (groupStep (sizeWith k) o x s) (tall-alike x s a) ∙ step (tallGroup p x s) again
+    script : (q : Option (List ℕ)) → Smaller field k → scriptStep field (sizeWith field k) o x s q ≡ scriptStep field (sizeWith field k) p x s q
+    script none again = ap (groupStep (sizeWith field k) o x s) (tall-alike field x s a) ∙ step (tallGroup field p x s) again
     script (some r) again = ap (λ t. until (x ∷ s) r ++ t) (again (reverseAux (until (x ∷ s) r) o) (reverseAux (until (x ∷ s) r) p) r (alike-reverse (until (x ∷ s) r) a))
 
-pub sizes-alike : {o p : List ℕ} (s : List ℕ) → Alike o p → sizes o s ≡ sizes p s
+pub sizes-alike : {o p : List ℕ} (field : ℕ) (s : List ℕ) → Alike o p → sizes field o s ≡ sizes field p s
 unfolding sizes
-sizes-alike {o} {p} s a = with-alike (length s) o p s a
+sizes-alike {o} {p} field s a = with-alike field (length s) o p s a

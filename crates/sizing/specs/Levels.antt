@@ -80,14 +80,14 @@ script-short x s r e = go (scriptSign x && is "{" (head s)) e
 abbrev Sizer : Type 0
 Sizer = List ℕ → List ℕ → List ℕ
 
-abbrev pub ifTall : ℕ → List ℕ → List ℕ → Option Group
-ifTall c m r = cond (tall m) (some (record { closer = c; content = m; behind = r })) none
+abbrev pub ifTall : ℕ → ℕ → List ℕ → List ℕ → Option Group
+ifTall field c m r = cond (tall field m) (some (record { closer = c; content = m; behind = r })) none
 
-abbrev pub groupOf : ℕ → List ℕ → Option (List ℕ) → Option Group
-groupOf c s q = q andThen λ r. ifTall c (inside s r) r
+abbrev pub groupOf : ℕ → ℕ → List ℕ → Option (List ℕ) → Option Group
+groupOf field c s q = q andThen λ r. ifTall field c (inside s r) r
 
-abbrev pub groupWith : ℕ → List ℕ → Option ℕ → Option Group
-groupWith x s q = q andThen λ c. groupOf c s (close x c 0 s)
+abbrev pub groupWith : ℕ → ℕ → List ℕ → Option ℕ → Option Group
+groupWith field x s q = q andThen λ c. groupOf field c s (close x c 0 s)
 
 abbrev pub groupStep : Sizer → List ℕ → ℕ → List ℕ → Option Group → List ℕ
 groupStep go o x s q =
@@ -96,11 +96,11 @@ groupStep go o x s q =
       | none ↦ x ∷ go (x ∷ o) s
     ]
 
-abbrev pub scriptStep : Sizer → List ℕ → ℕ → List ℕ → Option (List ℕ) → List ℕ
-scriptStep go o x s q =
+abbrev pub scriptStep : ℕ → Sizer → List ℕ → ℕ → List ℕ → Option (List ℕ) → List ℕ
+scriptStep field go o x s q =
     elim q [
       | some r ↦ let group = until (x ∷ s) r in group ++ go (reverseAux group o) r
-      | none ↦ groupStep go o x s (tallGroup o x s)
+      | none ↦ groupStep go o x s (tallGroup field o x s)
     ]
 
 -- a tall group: its parts are no longer than the text, and its closer stands before what is behind
@@ -108,9 +108,9 @@ pub record GroupWithin (s : List ℕ) (g : Group) : Type 0 where
   pub content : length (g .content) ≤ length s
   pub behind : length (g .behind) ≤ length s
 
-module _ (x : ℕ) (s : List ℕ) (g : Group) where
-  if-tall-parts : (c : ℕ) (m r : List ℕ) → length m ≤ length s → length r ≤ length s → ifTall c m r ≡ some g → GroupWithin s g
-  if-tall-parts c m r hm hr e = go (tall m) e
+module _ (field x : ℕ) (s : List ℕ) (g : Group) where
+  if-tall-parts : (c : ℕ) (m r : List ℕ) → length m ≤ length s → length r ≤ length s → ifTall field c m r ≡ some g → GroupWithin s g
+  if-tall-parts c m r hm hr e = go (tall field m) e
     where
       go : (t : Bool) → _≡_ {A = Option Group} (cond t (some (record { closer = c; content = m; behind = r })) none) (some g) → GroupWithin s g
       go true e =
@@ -119,66 +119,66 @@ module _ (x : ℕ) (s : List ℕ) (g : Group) where
           record { content = omega arith; behind = omega arith }
       go false e = let z : _≡_ {A = ℕ} 0 1 = cc in absurd (omega arith)
 
-  group-parts : (o : List ℕ) → tallGroup o x s ≡ some g → GroupWithin s g
+  group-parts : (o : List ℕ) → tallGroup field o x s ≡ some g → GroupWithin s g
   unfolding tallGroup
   group-parts o e = go (alreadySized o) e
     where
-      found : (c : ℕ) (q : Option (List ℕ)) → close x c 0 s ≡ q → groupOf c s q ≡ some g → GroupWithin s g
+      found : (c : ℕ) (q : Option (List ℕ)) → close x c 0 s ≡ q → groupOf field c s q ≡ some g → GroupWithin s g
       found c none f e = let z : _≡_ {A = ℕ} 0 1 = cc in absurd (omega arith)
       found c (some r) f e =
           let b = close-behind-closer x c 0 s r f .shorter in
           let l = length-take (pred (length s - length r)) s in
           if-tall-parts c (inside s r) r (omega arith) (omega arith) e
 
-      with-closer : (q : Option ℕ) → groupWith x s q ≡ some g → GroupWithin s g
+      with-closer : (q : Option ℕ) → groupWith field x s q ≡ some g → GroupWithin s g
       with-closer none e = let z : _≡_ {A = ℕ} 0 1 = cc in absurd (omega arith)
       with-closer (some c) e = found c (close x c 0 s) refl e
 
-      go : (t : Bool) → _≡_ {A = Option Group} (elim t [ true ↦ none | false ↦ groupWith x s (closing x) ]) (some g) → GroupWithin s g
+      go : (t : Bool) → _≡_ {A = Option Group} (elim t [ true ↦ none | false ↦ groupWith field x s (closing x) ]) (some g) → GroupWithin s g
       go true e = let z : _≡_ {A = ℕ} 0 1 = cc in absurd (omega arith)
       go false e = with-closer (closing x) e
 
 -- ---- a step looks at shorter texts alone
-step-same : (f g : Sizer) (o : List ℕ) (x : ℕ) (s : List ℕ) → ((p t : List ℕ) → length t ≤ length s → f p t ≡ g p t) → sizeStep f o (x ∷ s) ≡ sizeStep g o (x ∷ s)
+step-same : (field : ℕ) (f g : Sizer) (o : List ℕ) (x : ℕ) (s : List ℕ) → ((p t : List ℕ) → length t ≤ length s → f p t ≡ g p t) → sizeStep field f o (x ∷ s) ≡ sizeStep field g o (x ∷ s)
 unfolding sizeStep
-step-same f g o x s same = script (scriptGroup x s) refl
+step-same field f g o x s same = script (scriptGroup x s) refl
   where
-    group : (q : Option Group) → tallGroup o x s ≡ q → groupStep f o x s q ≡ groupStep g o x s q
+    group : (q : Option Group) → tallGroup field o x s ≡ q → groupStep f o x s q ≡ groupStep g o x s q
     group none e = ap (λ t. x ∷ t) (same (x ∷ o) s (omega arith))
     group (some h) e =
-        let p = group-parts x s h o e in
+        let p = group-parts field x s h o e in
         let m : f [] (h .content) ≡ g [] (h .content) = same [] (h .content) (p .content) in
         ap (λ t. leftRight x (h .closer) t ++ f (reverseAux (leftRight x (h .closer) t) o) (h .behind)) m
         ∙ ap (λ t. leftRight x (h .closer) (g [] (h .content)) ++ t) (same (reverseAux (leftRight x (h .closer) (g [] (h .content))) o) (h .behind) (p .behind))
 
-    script : (q : Option (List ℕ)) → scriptGroup x s ≡ q → scriptStep f o x s q ≡ scriptStep g o x s q
-    script none e = group (tallGroup o x s) refl
+    script : (q : Option (List ℕ)) → scriptGroup x s ≡ q → scriptStep field f o x s q ≡ scriptStep field g o x s q
+    script none e = group (tallGroup field o x s) refl
     script (some r) e = ap (λ t. until (x ∷ s) r ++ t) (same (reverseAux (until (x ∷ s) r) o) r (script-short x s r e))
 
-enough : (j k : ℕ) (o s : List ℕ) → length s ≤ j → length s ≤ k → sizeWith j o s ≡ sizeWith k o s
+enough : (field j k : ℕ) (o s : List ℕ) → length s ≤ j → length s ≤ k → sizeWith field j o s ≡ sizeWith field k o s
 unfolding sizeWith sizeStep
-enough zero zero o s hj hk = refl
-enough zero (suc k) o [] hj hk = refl
-enough zero (suc k) o (x ∷ s) hj hk = absurd (not-suc-le-zero hj)
-enough (suc j) zero o [] hj hk = refl
-enough (suc j) zero o (x ∷ s) hj hk = absurd (not-suc-le-zero hk)
-enough (suc j) (suc k) o [] hj hk = refl
-enough (suc j) (suc k) o (x ∷ s) hj hk = step-same (sizeWith j) (sizeWith k) o x s (λ p t h. enough j k p t (omega arith) (omega arith))
+enough field zero zero o s hj hk = refl
+enough field zero (suc k) o [] hj hk = refl
+enough field zero (suc k) o (x ∷ s) hj hk = absurd (not-suc-le-zero hj)
+enough field (suc j) zero o [] hj hk = refl
+enough field (suc j) zero o (x ∷ s) hj hk = absurd (not-suc-le-zero hk)
+enough field (suc j) (suc k) o [] hj hk = refl
+enough field (suc j) (suc k) o (x ∷ s) hj hk = step-same field (sizeWith field j) (sizeWith field k) o x s (λ p t h. enough field j k p t (omega arith) (omega arith))
 
-unfoldable pub sizes : Sizer
-sizes o s = sizeWith (length s) o s
+unfoldable pub sizes : ℕ → Sizer
+sizes field o s = sizeWith field (length s) o s
 
-pub sizes-first : (s : List ℕ) → sizes [] s ≡ sizeDelimitersToContent s
+pub sizes-first : (field : ℕ) (s : List ℕ) → sizes field [] s ≡ sizeDelimitersToContent field s
 unfolding sizes sizeDelimitersToContent
-sizes-first s = refl
+sizes-first field s = refl
 
-pub sizes-end : (o : List ℕ) → sizes o [] ≡ []
+pub sizes-end : (field : ℕ) (o : List ℕ) → sizes field o [] ≡ []
 unfolding sizes sizeWith sizeStep
-sizes-end o = refl
+sizes-end field o = refl
 
-pub size-step : (o : List ℕ) (x : ℕ) (s : List ℕ) → sizes o (x ∷ s) ≡ scriptStep sizes o x s (scriptGroup x s)
+pub size-step : (field : ℕ) (o : List ℕ) (x : ℕ) (s : List ℕ) → sizes field o (x ∷ s) ≡ scriptStep field (sizes field) o x s (scriptGroup x s)
 unfolding sizes sizeWith sizeStep
-size-step o x s = step-same (sizeWith (length s)) sizes o x s (λ p t h. enough (length s) (length t) p t h (omega arith))
+size-step field o x s = step-same field (sizeWith field (length s)) (sizes field) o x s (λ p t h. enough field (length s) (length t) p t h (omega arith))
 
 -- ---- without an opening delimiter nothing is sized
 contains-suffix : (w u r : List ℕ) → contains w (u ++ r) ≡ false → contains w r ≡ false
@@ -208,14 +208,14 @@ pub record Openerless (s : List ℕ) : Type 0 where
   pub round : contains (bytes "(") s ≡ false
   pub square : contains (bytes "[") s ≡ false
 
-abbrev Smaller : ℕ → Type 0
-Smaller k = (o s : List ℕ) → Openerless s → sizeWith k o s ≡ s
+abbrev Smaller : ℕ → ℕ → Type 0
+Smaller field k = (o s : List ℕ) → Openerless s → sizeWith field k o s ≡ s
 
-with-openerless : (k : ℕ) (o s : List ℕ) → Openerless s → sizeWith k o s ≡ s
+with-openerless : (field k : ℕ) (o s : List ℕ) → Openerless s → sizeWith field k o s ≡ s
 unfolding sizeWith sizeStep tallGroup
-with-openerless zero o s plain = refl
-with-openerless (suc k) o [] plain = refl
-with-openerless (suc k) o (x ∷ s) plain = script (scriptGroup x s) refl (with-openerless k)
+with-openerless field zero o s plain = refl
+with-openerless field (suc k) o [] plain = refl
+with-openerless field (suc k) o (x ∷ s) plain = script (scriptGroup x s) refl (with-openerless field k)
   where
     round : (eqb x (code "(") ≡ false) × (contains (bytes "(") s ≡ false)
     round = or-neither (eqb x (code "(")) (contains (bytes "(") s) (plain .round)
@@ -226,13 +226,13 @@ with-openerless (suc k) o (x ∷ s) plain = script (scriptGroup x s) refl (with-
     closing-none : closing x ≡ none
     closing-none = rw (round .0, square .0, closing)
 
-    no-group : (t : Bool) → _≡_ {A = Option Group} (elim t [ true ↦ none | false ↦ groupWith x s (closing x) ]) none
+    no-group : (t : Bool) → _≡_ {A = Option Group} (elim t [ true ↦ none | false ↦ groupWith field x s (closing x) ]) none
     no-group true = refl
-    no-group false = ap (groupWith x s) closing-none
+    no-group false = ap (groupWith field x s) closing-none
 
-    script : (q : Option (List ℕ)) → scriptGroup x s ≡ q → Smaller k → scriptStep (sizeWith k) o x s q ≡ x ∷ s
+    script : (q : Option (List ℕ)) → scriptGroup x s ≡ q → Smaller field k → scriptStep field (sizeWith field k) o x s q ≡ x ∷ s
     script none e again =
-        ap (groupStep (sizeWith k) o x s) (no-group (alreadySized o))
+        ap (groupStep (sizeWith field k) o x s) (no-group (alreadySized o))
         ∙ ap (λ t. x ∷ t) (again (x ∷ o) s (record { round = round .1; square = square .1 }))
     script (some r) e again =
         let suffix = script-suffix x s r e in
@@ -242,9 +242,9 @@ with-openerless (suc k) o (x ∷ s) plain = script (scriptGroup x s) refl (with-
         } in
         ap (λ t. until (x ∷ s) r ++ t) (again (reverseAux (until (x ∷ s) r) o) r p) ∙ suffix
 
-pub size-openerless : (s : List ℕ) → Openerless s → sizeDelimitersToContent s ≡ s
+pub size-openerless : (field : ℕ) (s : List ℕ) → Openerless s → sizeDelimitersToContent field s ≡ s
 unfolding sizeDelimitersToContent
-size-openerless s plain = with-openerless (length s) [] s plain
+size-openerless field s plain = with-openerless field (length s) [] s plain
 
 pub openerless-of : (s : List ℕ) → contains (bytes "(") s || contains (bytes "[") s ≡ false → Openerless s
 openerless-of s e = let p = or-neither (contains (bytes "(") s) (contains (bytes "[") s) e in record { round = p .0; square = p .1 }

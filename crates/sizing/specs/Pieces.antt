@@ -40,8 +40,8 @@ closer-is x = go (is "(" x)
     go true = inl refl
     go false = inr refl
 
-unfoldable pub sizedAt : List ℕ → ℕ → List ℕ
-sizedAt s i = sizes (before s i) (drop i s)
+unfoldable pub sizedAt : ℕ → List ℕ → ℕ → List ℕ
+sizedAt field s i = sizes field (before s i) (drop i s)
 
 -- ---- a word that stands right before a place
 -- the last symbols of u are x
@@ -74,23 +74,23 @@ abbrev pub closesAt : ℕ → List ℕ → Found → Type 0
 closesAt c s (At k) = getD s k 0 ≡ c
 closesAt c s Nothing = Unit {0}
 
-pub record TallIn (s : List ℕ) (o c : ℕ) (r : Found) : Type 0 where
+pub record TallIn (field : ℕ) (s : List ℕ) (o c : ℕ) (r : Found) : Type 0 where
   pub within : reach r ≤ length s
-  pub group : groupOf c s (close o c 0 s) ≡ closedGroup c s r
+  pub group : groupOf field c s (close o c 0 s) ≡ closedGroup c s r
   pub closes : closesAt c s r
 
-module _ (s : List ℕ) (o c : ℕ) {r : Found} (f : Closes s r (close o c 0 s)) where
-  pub tall-none : r ≡ Nothing → TallIn s o c Nothing
-  tall-none e = record { within = omega arith; group = ap (groupOf c s) (closes-nothing f e); closes = tt }
+module _ (field : ℕ) (s : List ℕ) (o c : ℕ) {r : Found} (f : Closes s r (close o c 0 s)) where
+  pub tall-none : r ≡ Nothing → TallIn field s o c Nothing
+  tall-none e = record { within = omega arith; group = ap (groupOf field c s) (closes-nothing f e); closes = tt }
 
   module _ {k : ℕ} (e : r ≡ At k) where
-    found : groupOf c s (close o c 0 s) ≡ ifTall c (take k s) (drop (k + 1) s)
-    found = ap (groupOf c s) (closes-at f e) ∙ ap (λ m. ifTall c m (drop (k + 1) s)) (inside-drop s k (closes-within f e))
+    found : groupOf field c s (close o c 0 s) ≡ ifTall field c (take k s) (drop (k + 1) s)
+    found = ap (groupOf field c s) (closes-at f e) ∙ ap (λ m. ifTall field c m (drop (k + 1) s)) (inside-drop s k (closes-within f e))
 
-    pub tall-low : tall (take k s) ≡ false → TallIn s o c Nothing
+    pub tall-low : tall field (take k s) ≡ false → TallIn field s o c Nothing
     tall-low t = record { within = omega arith; group = found ∙ ap (λ b. cond b (some (record { closer = c; content = take k s; behind = drop (k + 1) s })) none) t; closes = tt }
 
-    pub tall-high : tall (take k s) ≡ true → TallIn s o c (At k)
+    pub tall-high : tall field (take k s) ≡ true → TallIn field s o c (At k)
     tall-high t =
         let w = closes-within f e in
         let b = close-behind-closer o c 0 s (drop (k + 1) s) (closes-at f e) in
@@ -103,65 +103,65 @@ module _ (s : List ℕ) (o c : ℕ) {r : Found} (f : Closes s r (close o c 0 s))
         }
 
 -- ---- a tall group at a place
-pub record TallAt (s : List ℕ) (i : ℕ) (r : Found) : Type 0 where
+pub record TallAt (field : ℕ) (s : List ℕ) (i : ℕ) (r : Found) : Type 0 where
   pub within : reach r ≤ length (drop (i + 1) s)
-  pub group : tallGroup (before s i) (getD s i 0) (drop (i + 1) s) ≡ closedGroup (closerOf (getD s i 0)) (drop (i + 1) s) r
+  pub group : tallGroup field (before s i) (getD s i 0) (drop (i + 1) s) ≡ closedGroup (closerOf (getD s i 0)) (drop (i + 1) s) r
   pub closes : closesAt (closerOf (getD s i 0)) (drop (i + 1) s) r
 
-module _ (s : List ℕ) (i : ℕ) where
-  pub tall-sized : alreadySized (before s i) ≡ true → TallAt s i Nothing
+module _ (field : ℕ) (s : List ℕ) (i : ℕ) where
+  pub tall-sized : alreadySized (before s i) ≡ true → TallAt field s i Nothing
   unfolding tallGroup
   tall-sized e = record { within = omega arith; group = rw (e, tallGroup); closes = tt }
 
   module _ (e : alreadySized (before s i) ≡ false) where
-    open-group : tallGroup (before s i) (getD s i 0) (drop (i + 1) s) ≡ groupWith (getD s i 0) (drop (i + 1) s) (closing (getD s i 0))
+    open-group : tallGroup field (before s i) (getD s i 0) (drop (i + 1) s) ≡ groupWith field (getD s i 0) (drop (i + 1) s) (closing (getD s i 0))
     unfolding tallGroup
     open-group = rw (e, tallGroup)
 
-    pub tall-here : (x c : ℕ) {r : Found} → getD s i 0 ≡ x → closing x ≡ some c → closerOf x ≡ c → TallIn (drop (i + 1) s) x c r → TallAt s i r
+    pub tall-here : (x c : ℕ) {r : Found} → getD s i 0 ≡ x → closing x ≡ some c → closerOf x ≡ c → TallIn field (drop (i + 1) s) x c r → TallAt field s i r
     tall-here x c {r} same is-some closer t =
         let q : closerOf (getD s i 0) ≡ c = ap closerOf same ∙ closer in
         record {
           within = t .within;
-          group = open-group ∙ ap (λ y. groupWith y (drop (i + 1) s) (closing y)) same ∙ ap (groupWith x (drop (i + 1) s)) is-some
+          group = open-group ∙ ap (λ y. groupWith field y (drop (i + 1) s) (closing y)) same ∙ ap (groupWith field x (drop (i + 1) s)) is-some
               ∙ t .group ∙ ap (λ d. closedGroup d (drop (i + 1) s) r) (sym q);
           closes = subst (λ d. closesAt d (drop (i + 1) s) r) (sym q) (t .closes);
         }
 
-    pub tall-other : (getD s i 0 ≡ code "(" → ⊥) → (getD s i 0 ≡ code "[" → ⊥) → TallAt s i Nothing
+    pub tall-other : (getD s i 0 ≡ code "(" → ⊥) → (getD s i 0 ≡ code "[" → ⊥) → TallAt field s i Nothing
     tall-other a b =
         let shut : closing (getD s i 0) ≡ none = rw (ne-eqb (getD s i 0) (code "(") a, ne-eqb (getD s i 0) (code "[") b, closing) in
         record {
           within = omega arith;
-          group = open-group ∙ ap (groupWith (getD s i 0) (drop (i + 1) s)) shut;
+          group = open-group ∙ ap (groupWith field (getD s i 0) (drop (i + 1) s)) shut;
           closes = tt;
         }
 
 -- ---- the pieces
-pub record PieceKept (s : List ℕ) (i k : ℕ) : Type 0 where
+pub record PieceKept (field : ℕ) (s : List ℕ) (i k : ℕ) : Type 0 where
   pub positive : 0 < k
   pub fits : i + k ≤ length s
-  pub step : sizedAt s i ≡ take k (drop i s) ++ sizedAt s (i + k)
+  pub step : sizedAt field s i ≡ take k (drop i s) ++ sizedAt field s (i + k)
 
-pub record Grown (s : List ℕ) (i k : ℕ) : Type 0 where
+pub record Grown (field : ℕ) (s : List ℕ) (i k : ℕ) : Type 0 where
   pub fits : i + k + 2 ≤ length s
-  pub step : sizedAt s i ≡ leftRight (getD s i 0) (closerOf (getD s i 0)) (sizeDelimitersToContent (take k (drop (i + 1) s))) ++ sizedAt s (i + k + 2)
+  pub step : sizedAt field s i ≡ leftRight (getD s i 0) (closerOf (getD s i 0)) (sizeDelimitersToContent field (take k (drop (i + 1) s))) ++ sizedAt field s (i + k + 2)
 
-abbrev pub PieceFor : List ℕ → ℕ → Piece → Type 0
-PieceFor s i (Keep k) = PieceKept s i k
-PieceFor s i (Tall k) = Grown s i k
+abbrev pub PieceFor : ℕ → List ℕ → ℕ → Piece → Type 0
+PieceFor field s i (Keep k) = PieceKept field s i k
+PieceFor field s i (Tall k) = Grown field s i k
 
 passed-many : (s : List ℕ) (i k : ℕ) → reverseAux (take k (drop i s)) (before s i) ≡ before s (i + k)
 passed-many s i k =
     reverseAux-eq (take k (drop i s)) (before s i) ∙ sym (reverse-append (take i s) (take k (drop i s))) ∙ ap reverse (sym (take-add i k s))
 
-module _ (s : List ℕ) (i : ℕ) (inside : i < length s) where
-  here : sizedAt s i ≡ scriptStep sizes (before s i) (getD s i 0) (drop (i + 1) s) (scriptGroup (getD s i 0) (drop (i + 1) s))
+module _ (field : ℕ) (s : List ℕ) (i : ℕ) (inside : i < length s) where
+  here : sizedAt field s i ≡ scriptStep field (sizes field) (before s i) (getD s i 0) (drop (i + 1) s) (scriptGroup (getD s i 0) (drop (i + 1) s))
   unfolding sizedAt
-  here = ap (sizes (before s i)) (drop-step s i inside) ∙ size-step (before s i) (getD s i 0) (drop (i + 1) s)
+  here = ap (sizes field (before s i)) (drop-step s i inside) ∙ size-step field (before s i) (getD s i 0) (drop (i + 1) s)
 
   module _ {r : Found} (f : Closes (drop (i + 1) s) r (scriptGroup (getD s i 0) (drop (i + 1) s))) where
-    pub script-piece : {j : ℕ} → r ≡ At j → PieceFor s i (Keep (j + 2))
+    pub script-piece : {j : ℕ} → r ≡ At j → PieceFor field s i (Keep (j + 2))
     unfolding sizedAt
     script-piece {j} e =
         let w = closes-within f e in let l = length-drop (i + 1) s in let d = length-drop i s in
@@ -177,35 +177,35 @@ module _ (s : List ℕ) (i : ℕ) (inside : i < length s) where
         record {
           positive = omega arith;
           fits = omega arith;
-          step = here ∙ ap (scriptStep sizes (before s i) x t) (closes-at f e)
-              ∙ ap (λ u. u ++ sizes (reverseAux u (before s i)) (drop (j + 1) t)) block
-              ∙ ap₂ (λ p q. take (j + 2) (drop i s) ++ sizes p q) (passed-many s i (j + 2)) (behind ∙ drop-drop (j + 2) i s);
+          step = here ∙ ap (scriptStep field (sizes field) (before s i) x t) (closes-at f e)
+              ∙ ap (λ u. u ++ sizes field (reverseAux u (before s i)) (drop (j + 1) t)) block
+              ∙ ap₂ (λ p q. take (j + 2) (drop i s) ++ sizes field p q) (passed-many s i (j + 2)) (behind ∙ drop-drop (j + 2) i s);
         }
 
     module _ (e : r ≡ Nothing) where
-      no-script : sizedAt s i ≡ groupStep sizes (before s i) (getD s i 0) (drop (i + 1) s) (tallGroup (before s i) (getD s i 0) (drop (i + 1) s))
-      no-script = here ∙ ap (scriptStep sizes (before s i) (getD s i 0) (drop (i + 1) s)) (closes-nothing f e)
+      no-script : sizedAt field s i ≡ groupStep (sizes field) (before s i) (getD s i 0) (drop (i + 1) s) (tallGroup field (before s i) (getD s i 0) (drop (i + 1) s))
+      no-script = here ∙ ap (scriptStep field (sizes field) (before s i) (getD s i 0) (drop (i + 1) s)) (closes-nothing f e)
 
-      pub symbol-piece : {q : Found} → TallAt s i q → q ≡ Nothing → PieceFor s i (Keep 1)
+      pub symbol-piece : {q : Found} → TallAt field s i q → q ≡ Nothing → PieceFor field s i (Keep 1)
       unfolding sizedAt
       symbol-piece t n =
           let g = t .group ∙ ap (closedGroup (closerOf (getD s i 0)) (drop (i + 1) s)) n in
           record {
             positive = omega arith;
             fits = omega arith;
-            step = no-script ∙ ap (groupStep sizes (before s i) (getD s i 0) (drop (i + 1) s)) g
-                ∙ ap (λ p. getD s i 0 ∷ sizes p (drop (i + 1) s)) (sym (before-next s i inside))
-                ∙ ap (λ u. take 1 u ++ sizedAt s (i + 1)) (sym (drop-step s i inside));
+            step = no-script ∙ ap (groupStep (sizes field) (before s i) (getD s i 0) (drop (i + 1) s)) g
+                ∙ ap (λ p. getD s i 0 ∷ sizes field p (drop (i + 1) s)) (sym (before-next s i inside))
+                ∙ ap (λ u. take 1 u ++ sizedAt field s (i + 1)) (sym (drop-step s i inside));
           }
 
-      pub tall-piece : {q : Found} {k : ℕ} → TallAt s i q → q ≡ At k → PieceFor s i (Tall k)
+      pub tall-piece : {q : Found} {k : ℕ} → TallAt field s i q → q ≡ At k → PieceFor field s i (Tall k)
       unfolding sizedAt
       tall-piece {k = k} t n =
           let x = getD s i 0 in let b = drop (i + 1) s in let c = closerOf x in let o = before s i in
           let w = t .within in let q = ap reach n in let l = length-drop (i + 1) s in
           let g = t .group ∙ ap (closedGroup c b) n in
           let closes : getD b k 0 ≡ c = subst (closesAt c b) n (t .closes) in
-          let m = leftRight x c (sizes [] (take k b)) in
+          let m = leftRight x c (sizes field [] (take k b)) in
           let e1 : i + 1 + (k + 1) ≡ i + k + 2 = omega arith in
           let e2 : i + k + 1 + 1 ≡ i + k + 2 = omega arith in
           let e3 : i + 1 + k ≡ i + k + 1 = omega arith in
@@ -214,16 +214,16 @@ module _ (s : List ℕ) (i : ℕ) (inside : i < length s) where
           ap (before s) (sym e2) ∙ before-next s (i + k + 1) (omega arith)
           ∙ ap (λ y. y ∷ before s (i + k + 1)) (ap (λ j. getD s j 0) (sym e3) ∙ sym (getD-drop (i + 1) s k 0) ∙ closes)
           in
-          let m₀ = bytes "\\left" ++ (x ∷ (sizes [] (take k b) ++ bytes "\\right")) in
+          let m₀ = bytes "\\left" ++ (x ∷ (sizes field [] (take k b) ++ bytes "\\right")) in
           let ends : reverseAux m o ≡ c ∷ reverseAux m₀ o =
-          ap (λ u. reverseAux u o) (ap (λ u. bytes "\\left" ++ (x ∷ u)) (sym (append-assoc (sizes [] (take k b)) (bytes "\\right") (c ∷ []))))
+          ap (λ u. reverseAux u o) (ap (λ u. bytes "\\left" ++ (x ∷ u)) (sym (append-assoc (sizes field [] (take k b)) (bytes "\\right") (c ∷ []))))
           ∙ reverseAux-append m₀ (c ∷ []) o
           in
           record {
             fits = omega arith;
-            step = no-script ∙ ap (groupStep sizes o x b) g
-                ∙ ap (λ p. m ++ sizes p (drop (k + 1) b)) ends
-                ∙ ap (λ u. m ++ u) (sizes-alike (drop (k + 1) b) (group {o = reverseAux m₀ o} {p = before s (i + k + 1)} c (closer-is x)))
-                ∙ ap₂ (λ p u. m ++ sizes p u) (sym last) behind
-                ∙ ap (λ u. leftRight x c u ++ sizedAt s (i + k + 2)) (sizes-first (take k b));
+            step = no-script ∙ ap (groupStep (sizes field) o x b) g
+                ∙ ap (λ p. m ++ sizes field p (drop (k + 1) b)) ends
+                ∙ ap (λ u. m ++ u) (sizes-alike field (drop (k + 1) b) (group {o = reverseAux m₀ o} {p = before s (i + k + 1)} c (closer-is x)))
+                ∙ ap₂ (λ p u. m ++ sizes field p u) (sym last) behind
+                ∙ ap (λ u. leftRight x c u ++ sizedAt field s (i + k + 2)) (sizes-first field (take k b));
           }

@@ -58,16 +58,16 @@ fn put_right(work: &mut [u8], to: usize, count: usize, b: u8) -> usize
 }
 
 // Appends the `n` symbols at `from`, with tall groups sized, on every level.
-fn size(work: &mut [u8], from: usize, n: usize, to: usize, count: usize) -> usize
+fn size(work: &mut [u8], from: usize, n: usize, to: usize, count: usize, field: u32) -> usize
     requires { ⌜ Regions (now work) from n to mostSymbols count ⌝ }
-    ensures { λ r. ⌜ DelimitersSized (now (work .entry)) (now (work .exit)) from n to count r ⌝ }
+    ensures { λ r. ⌜ DelimitersSized field (now (work .entry)) (now (work .exit)) from n to count r ⌝ }
 {
     let end = from + n;
     let mut total = count;
     let mut i = 0;
     while i < n {
         let at = from + i;
-        match piece_at(&work[from..end], i) {
+        match piece_at(&work[from..end], i, field) {
             Piece::Keep(k) => {
                 total = text::copy(work, at, k, to, text::CAP, total);
                 i += k;
@@ -76,7 +76,7 @@ fn size(work: &mut [u8], from: usize, n: usize, to: usize, count: usize) -> usiz
                 let b = work[at];
                 total = put_left(work, to, total, b);
                 let inside = i + 1;
-                total = size(work, from + inside, k, to, total);
+                total = size(work, from + inside, k, to, total, field);
                 total = put_right(work, to, total, closer_of(b));
                 i = i + k + 2;
             }
@@ -86,9 +86,9 @@ fn size(work: &mut [u8], from: usize, n: usize, to: usize, count: usize) -> usiz
 }
 
 // The stage. Without a delimiter that opens, the text stays where it is.
-pub fn size_delimiters_to_content(work: &mut [u8], text: Progress) -> Progress
+pub fn size_delimiters_to_content(work: &mut [u8], text: Progress, field: u32) -> Progress
     requires { ⌜ Ready (now work) text ⌝ }
-    ensures { λ r. ⌜ Staged (now (work .entry)) (now (work .exit)) text r (stage sizeDelimitersToContent) ⌝ }
+    ensures { λ r. ⌜ Staged (now (work .entry)) (now (work .exit)) text r (stage (sizeDelimitersToContent field)) ⌝ }
 {
     let Progress::Text(from, n) = text else {
         return text;
@@ -98,6 +98,6 @@ pub fn size_delimiters_to_content(work: &mut [u8], text: Progress) -> Progress
         return text;
     }
     let to = text::CAP - from;
-    let count = size(work, from, n, to, 0);
+    let count = size(work, from, n, to, 0, field);
     text::finished(to, count)
 }

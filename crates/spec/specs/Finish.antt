@@ -2,7 +2,7 @@
 use mathlib.Core.Bool.{Bool, true, false, not, cond, _&&_, _||_}
 use mathlib.Core.List.{List, [], _∷_, _++_, reverse, reverseAux}
 use mathlib.Core.Option.{Option, none, some}
-use Prim.Native.Nat.{ℕ, zero, suc, pred}
+use Prim.Native.Nat.{ℕ, zero, suc, pred, _/_, _%_}
 use Prim.Native.Char.{code}
 use lib.Dec.{eqb}
 use lib.ListN.{length, take}
@@ -83,10 +83,22 @@ unfolding sweep reached callAt
 convertLr s = elim (reached bareDelimiter lr 0 0 s) [ true ↦ refused 8 | false ↦ stage (sweep lr 0 0) s ]
 
 -- ---- size_delimiters_to_content; what was written so far, on this level, stands last first
-abbrev pub tall : List ℕ → Bool
-tall s =
-    contains (bytes "\\frac") s
-    || (contains (bytes "\\sqrt") s || (contains (bytes "\\binom") s || (contains (bytes "\\sum") s || contains (bytes "\\int") s)))
+-- The tall field (document 02, A13): each of the five commands that cause sizing has a bit, and counts where it is 1. With all five it is the Rust's.
+abbrev pub allTall : ℕ
+allTall = 31
+
+-- the bit of that value
+abbrev pub bit : ℕ → ℕ → Bool
+bit value field = eqb ((field / value) % 2) 1
+
+abbrev pub fracBit : ℕ → Bool
+fracBit field = bit 16 field
+
+abbrev pub tall : ℕ → List ℕ → Bool
+tall field s =
+    fracBit field && contains (bytes "\\frac") s
+    || (bit 8 field && contains (bytes "\\sqrt") s
+    || (bit 4 field && contains (bytes "\\binom") s || (bit 2 field && contains (bytes "\\sum") s || bit 1 field && contains (bytes "\\int") s)))
 
 -- behind the script group that begins with the sign x, if one does
 abbrev pub scriptGroup : ℕ → List ℕ → Option (List ℕ)
@@ -104,42 +116,42 @@ pub record Group : Type 0 where
   pub behind : List ℕ
 
 -- the tall group that x opens before s
-unfoldable pub tallGroup : List ℕ → ℕ → List ℕ → Option Group
+unfoldable pub tallGroup : ℕ → List ℕ → ℕ → List ℕ → Option Group
 unfolding close
-tallGroup o x s =
+tallGroup field o x s =
     elim (alreadySized o) [
       | true ↦ none
       | false ↦
           closing x andThen λ c.
           matchingDelimiter x c (x ∷ s) andThen λ r.
-          cond (tall (inside s r)) (some (record { closer = c; content = inside s r; behind = r })) none
+          cond (tall field (inside s r)) (some (record { closer = c; content = inside s r; behind = r })) none
     ]
 
 abbrev pub leftRight : ℕ → ℕ → List ℕ → List ℕ
 leftRight x c m = bytes "\\left" ++ (x ∷ (m ++ (bytes "\\right" ++ c ∷ [])))
 
 -- one step; `go` sizes what is shorter
-unfoldable pub sizeStep : (List ℕ → List ℕ → List ℕ) → List ℕ → List ℕ → List ℕ
+unfoldable pub sizeStep : ℕ → (List ℕ → List ℕ → List ℕ) → List ℕ → List ℕ → List ℕ
 unfolding tallGroup close
-sizeStep go o [] = []
-sizeStep go o (x ∷ s) =
+sizeStep field go o [] = []
+sizeStep field go o (x ∷ s) =
     elim (scriptGroup x s) [
       | some r ↦ let group = until (x ∷ s) r in group ++ go (reverseAux group o) r
-      | none ↦ elim (tallGroup o x s) [
+      | none ↦ elim (tallGroup field o x s) [
         | some g ↦ let sized = leftRight x (g .closer) (go [] (g .content)) in sized ++ go (reverseAux sized o) (g .behind)
         | none ↦ x ∷ go (x ∷ o) s
       ]
     ]
 
 -- k bounds the steps. Each takes at least one symbol, so a text's length is enough: `enough` in `crates/sizing/specs/Levels`
-unfoldable pub sizeWith : ℕ → List ℕ → List ℕ → List ℕ
+unfoldable pub sizeWith : ℕ → ℕ → List ℕ → List ℕ → List ℕ
 unfolding sizeStep
-sizeWith zero o s = s
-sizeWith (suc k) o s = sizeStep (sizeWith k) o s
+sizeWith field zero o s = s
+sizeWith field (suc k) o s = sizeStep field (sizeWith field k) o s
 
-unfoldable pub sizeDelimitersToContent : List ℕ → List ℕ
+unfoldable pub sizeDelimitersToContent : ℕ → List ℕ → List ℕ
 unfolding sizeWith
-sizeDelimitersToContent s = sizeWith (length s) [] s
+sizeDelimitersToContent field s = sizeWith field (length s) [] s
 
 -- ---- percent
 abbrev pub escapePercent : List ℕ → List ℕ

@@ -1,5 +1,5 @@
 -- Plain formulas: document 01's grammar, rule by rule, and what each rule is typed as, prints and counts. That a numerator may hold slashes is document
--- 02's A4. Assumes nothing.
+-- 02's A4, and that the LaTeX goes by the tall field its A13. Assumes nothing.
 --     Sum, Product, Factor, Operand, Script, Atom    the rules
 --     proper                                         what the rules ask besides
 --     text, latex, atoms                             the formula, its LaTeX, and the count that the plain check gives
@@ -13,6 +13,7 @@ use lib.Dec.{ltb}
 use lib.ListN.{length, getD}
 use Rattle.spec.specs.Symbols.{bytes, letter, digit, alnum, all}
 use Rattle.spec.specs.Rows.{Row, greekLetters}
+use Rattle.spec.specs.Finish.{fracBit}
 use Rattle.spec.specs.Pipeline.{mostFormula}
 
 -- ---- atoms: one ASCII letter, one of the thirty Greek names, or 1 to 9 digits
@@ -190,34 +191,36 @@ atomLatex (number ds e b) = ds
 abbrev pub parensLatex : Bool → List ℕ → List ℕ
 parensLatex sized s = cond sized (bytes "\\left(" ++ s ++ bytes "\\right)") (parenthesized s)
 
--- `outside` says that no script encloses the thing; a fraction has no operand parentheses; script groups are in braces
+-- `sizing` says that parentheses with a fraction in them are sized: where the tall field has the bit of `\frac`, and no script encloses the thing. A fraction
+-- has no operand parentheses; script groups are in braces.
 unfoldable mutual
   pub sumLatex : Bool → Sum → List ℕ
-  sumLatex outside (product p) = productLatex outside p
-  sumLatex outside (plus p s) = productLatex outside p ++ bytes " + " ++ sumLatex outside s
-  sumLatex outside (minus p s) = productLatex outside p ++ bytes " - " ++ sumLatex outside s
+  sumLatex sizing (product p) = productLatex sizing p
+  sumLatex sizing (plus p s) = productLatex sizing p ++ bytes " + " ++ sumLatex sizing s
+  sumLatex sizing (minus p s) = productLatex sizing p ++ bytes " - " ++ sumLatex sizing s
 
   pub productLatex : Bool → Product → List ℕ
-  productLatex outside (factor f) = factorLatex outside f
-  productLatex outside (beside f p) = factorLatex outside f ++ bytes " " ++ productLatex outside p
+  productLatex sizing (factor f) = factorLatex sizing f
+  productLatex sizing (beside f p) = factorLatex sizing f ++ bytes " " ++ productLatex sizing p
 
   pub factorLatex : Bool → Factor → List ℕ
-  factorLatex outside (scripted a l h) = atomLatex a ++ scriptLatex (bytes "_") l ++ scriptLatex (bytes "^") h
-  factorLatex outside (fraction n d) = bytes "\\frac{" ++ operandLatex outside n ++ bytes "}{" ++ operandLatex outside d ++ bytes "}"
-  factorLatex outside (group s) = parensLatex (outside && not (slashless s)) (sumLatex outside s)
+  factorLatex sizing (scripted a l h) = atomLatex a ++ scriptLatex (bytes "_") l ++ scriptLatex (bytes "^") h
+  factorLatex sizing (fraction n d) = bytes "\\frac{" ++ operandLatex sizing n ++ bytes "}{" ++ operandLatex sizing d ++ bytes "}"
+  factorLatex sizing (group s) = parensLatex (sizing && not (slashless s)) (sumLatex sizing s)
 
   pub operandLatex : Bool → Operand → List ℕ
-  operandLatex outside (atom a) = atomLatex a
-  operandLatex outside (enclosed s) = sumLatex outside s
+  operandLatex sizing (atom a) = atomLatex a
+  operandLatex sizing (enclosed s) = sumLatex sizing s
 
   pub scriptLatex : List ℕ → Script → List ℕ
   scriptLatex sign bare = []
   scriptLatex sign (symbol c e) = sign ++ c ∷ []
   scriptLatex sign (inner s) = sign ++ bytes "{" ++ sumLatex false s ++ bytes "}"
 
-unfoldable pub latex : Sum → List ℕ
+-- under a tall field
+unfoldable pub latex : ℕ → Sum → List ℕ
 unfolding sumLatex
-latex s = sumLatex true s
+latex field s = sumLatex (fracBit field) s
 
 -- ---- the atom count: scripts of one symbol don't count
 unfoldable mutual

@@ -1,10 +1,11 @@
--- Plain formulas with their LaTeX and atom counts, and what the rules leave out: two tables, checked by computation. Assumes nothing.
+-- Plain formulas with their LaTeX under a tall field and their atom counts, and what the rules leave out: two tables, checked by computation. Assumes nothing.
 use mathlib.Core.Path.{_≡_, refl}
 use mathlib.Core.Bool.{true, false}
 use mathlib.Core.List.{List, [], _∷_, map}
 use Prim.Native.Nat.{ℕ}
 use Prim.Native.Char.{code}
 use Rattle.spec.specs.Symbols.{bytes}
+use Rattle.spec.specs.Finish.{allTall}
 use Rattle.spec.specs.Grammar.{Atom, variable, greek, number, Sum, product, plus, minus, factor, beside, Factor, scripted, fraction, group, atom, enclosed, bare, symbol, inner, greekName, proper, text, latex, atoms}
 
 -- ---- parts
@@ -36,41 +37,49 @@ over n d = fraction (atom n) (atom d)
 record Example : Type 0 where
   sum : Sum
   typed : List ℕ
+  field : ℕ
   printed : List ℕ
   count : ℕ
 
 abbrev examples : List Example
 examples =
-    record { sum = alone (unscripted alpha); typed = bytes "alpha"; printed = bytes "\\alpha"; count = 1 }
+    record { sum = alone (unscripted alpha); typed = bytes "alpha"; field = allTall; printed = bytes "\\alpha"; count = 1 }
     ∷ record {
       sum = plus (beside (unscripted a) (factor (unscripted alpha))) (minus (factor (unscripted one)) (alone (unscripted b)));
       typed = bytes "a alpha + 1 - b";
+      field = allTall;
       printed = bytes "a \\alpha + 1 - b";
       count = 4;
     }
     ∷ record {
       sum = alone (fraction (enclosed (plus (factor (unscripted a)) (alone (unscripted one)))) (atom b));
       typed = bytes "(a + 1)/b";
+      field = allTall;
       printed = bytes "\\frac{a + 1}{b}";
       count = 3;
     }
     ∷ record {
       sum = alone (fraction (atom a) (enclosed (alone (over b c))));
       typed = bytes "a/(b/c)";
+      field = allTall;
       printed = bytes "\\frac{a}{\\frac{b}{c}}";
       count = 3;
     }
     ∷ record {
       sum = alone (fraction (enclosed (alone (over a b))) (atom c));
       typed = bytes "(a/b)/c";
+      field = allTall;
       printed = bytes "\\frac{\\frac{a}{b}}{c}";
       count = 3;
     }
-    ∷ record { sum = alone (group (alone (over a b))); typed = bytes "(a/b)"; printed = bytes "\\left(\\frac{a}{b}\\right)"; count = 2 }
-    ∷ record { sum = alone (group (alone (unscripted a))); typed = bytes "(a)"; printed = bytes "(a)"; count = 1 }
+    ∷ record { sum = alone (group (alone (over a b))); typed = bytes "(a/b)"; field = allTall; printed = bytes "\\left(\\frac{a}{b}\\right)"; count = 2 }
+    ∷ record { sum = alone (group (alone (over a b))); typed = bytes "(a/b)"; field = 16; printed = bytes "\\left(\\frac{a}{b}\\right)"; count = 2 }
+    ∷ record { sum = alone (group (alone (over a b))); typed = bytes "(a/b)"; field = 15; printed = bytes "(\\frac{a}{b})"; count = 2 }
+    ∷ record { sum = alone (group (alone (unscripted a))); typed = bytes "(a)"; field = allTall; printed = bytes "(a)"; count = 1 }
     ∷ record {
       sum = alone (scripted a (symbol (code "1") refl) (inner (alone (group (alone (over b c))))));
       typed = bytes "a_1^((b/c))";
+      field = allTall;
       printed = bytes "a_1^{(\\frac{b}{c})}";
       count = 3;
     }
@@ -83,7 +92,7 @@ examples-typed : map (λ (e : Example). text (e .sum)) examples ≡ map (λ (e :
 unfolding text greekName
 examples-typed = refl
 
-examples-printed : map (λ (e : Example). latex (e .sum)) examples ≡ map (λ (e : Example). e .printed) examples
+examples-printed : map (λ (e : Example). latex (e .field) (e .sum)) examples ≡ map (λ (e : Example). e .printed) examples
 unfolding latex greekName
 examples-printed = refl
 

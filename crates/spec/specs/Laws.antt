@@ -12,4 +12,5 @@ pub mod Attach
 pub mod Order
 pub mod Selection
 pub mod Table
+pub mod Admission
 pub mod WordAt

@@ -1,6 +1,6 @@
 -- typst_to_latex: all stages in the Rust's order, then the answer of a call and what stands in the lent buffers afterwards. Assumes nothing.
 --     convertSyntax, typstToLatex    the Rust's functions of these names, with the refusals 5 to 9
---     converted                      the bytes that a call puts out, or its refusal: 4, 2, 1, 3, the stages, 10
+--     converted                      the bytes that a call puts out, or its refusal: 4, 15, 2, 1, 3, the stages, 10
 --     Call                           what a call answers and leaves, from what it was lent
 use mathlib.Core.Path.{_≡_}
 use mathlib.Core.Bool.{Bool, true, false, cond}
@@ -20,7 +20,7 @@ use Rattle.spec.specs.Rows.{functionMappings, operatorReplacements}
 use Rattle.spec.specs.Words.{convertSqrt, replaceRows, convertWords, capitals, convertGreekCapitals}
 use Rattle.spec.specs.Scripts.{convertParenToBrace, wrapTextSubscripts, wrapMulticharScripts, convertSubscripts, convertSuperscripts}
 use Rattle.spec.specs.Fractions.{convertFractions}
-use Rattle.spec.specs.Finish.{escapeSetBraces, convertLr, sizeDelimitersToContent, escapePercent, convertAlignment, dropThinSpaceAfterCommands}
+use Rattle.spec.specs.Finish.{allTall, escapeSetBraces, convertLr, sizeDelimitersToContent, escapePercent, convertAlignment, dropThinSpaceAfterCommands}
 
 -- ---- the stages
 abbrev pub markSolidus : List ℕ → List ℕ
@@ -34,9 +34,9 @@ abbrev pub onDisplay : Bool → (List ℕ → Result (List ℕ)) → List ℕ �
 onDisplay true f s = f s
 onDisplay false f s = passed s
 
-unfoldable pub convertSyntax : Bool → List ℕ → Result (List ℕ)
+unfoldable pub convertSyntax : Bool → ℕ → List ℕ → Result (List ℕ)
 unfolding replace convertSqrt replaceRows convertWords capitals convertParenToBrace wrapTextSubscripts wrapMulticharScripts convertFractions escapeSetBraces convertLr sizeDelimitersToContent
-convertSyntax display s =
+convertSyntax display field s =
     stage convertSqrt s
     then replaceRows functionMappings
     then replaceRows operatorReplacements
@@ -48,12 +48,12 @@ convertSyntax display s =
     then stage unmarkSolidus
     then stage escapeSetBraces
     then convertLr
-    then onDisplay display (stage sizeDelimitersToContent)
+    then onDisplay display (stage (sizeDelimitersToContent field))
     then stage escapePercent
 
-unfoldable pub typstToLatex : List Definition → Bool → List ℕ → Result (List ℕ)
+unfoldable pub typstToLatex : List Definition → Bool → ℕ → List ℕ → Result (List ℕ)
 unfolding replace convertCalls convertCases convertAttach convertBinom convertTextQuotes applyDefinitionsOutsideText convertSyntax convertAlignment dropThinSpaceAfterCommands
-typstToLatex ds display s =
+typstToLatex ds display field s =
     stage markSolidus s
     then stage convertOp
     then stage convertCases
@@ -65,7 +65,7 @@ typstToLatex ds display s =
     then convertFloorCeilAbs
     then stage convertTextQuotes
     then applyDefinitionsOutsideText ds
-    then convertSyntax display
+    then convertSyntax display field
     then stage convertAlignment
     then stage dropThinSpaceAfterCommands
 
@@ -93,17 +93,21 @@ checked formula table =
       | false ↦ elim (any foreign formula) [ true ↦ refused 1 | false ↦ readable formula (definitions table) ]
     ]
 
--- number 4 before them
-abbrev pub admitted : List ℕ → List ℕ → List ℕ → Result (List ℕ)
-admitted formula table work = elim (ltb (length work) leastWork) [ true ↦ refused 4 | false ↦ checked formula table ]
+-- numbers 4 and 15 before them
+abbrev pub admitted : List ℕ → List ℕ → ℕ → List ℕ → Result (List ℕ)
+admitted formula table field work =
+    elim (ltb (length work) leastWork) [
+      | true ↦ refused 4
+      | false ↦ elim (ltb allTall field) [ true ↦ refused 15 | false ↦ checked formula table ]
+    ]
 
 -- number 10
 abbrev pub fitting : List ℕ → List ℕ → Result (List ℕ)
 fitting output s = cond (ltb (length output) (length s)) (refused 10) (passed s)
 
-unfoldable pub converted : List ℕ → List ℕ → Bool → List ℕ → List ℕ → Result (List ℕ)
+unfoldable pub converted : List ℕ → List ℕ → Bool → ℕ → List ℕ → List ℕ → Result (List ℕ)
 unfolding definitions typstToLatex
-converted formula table display work output = admitted formula table work then typstToLatex (definitionsOr table) display then fitting output
+converted formula table display field work output = admitted formula table field work then typstToLatex (definitionsOr table) display field then fitting output
 
 -- ---- the answer and the buffers
 -- the byte count, or the refusal
@@ -122,7 +126,7 @@ workAfter (passed s) work = replicate (length work) 0
 workAfter (refused number) work = cond (eqb number 4) work (replicate (length work) 0)
 
 -- a call, from what it was lent to what it answers and leaves
-pub record Call (formula table : List ℕ) (display : Bool) (work output : List ℕ) (answer : Result ℕ) (work′ output′ : List ℕ) : Type 0 where
-  pub answers : answer ≡ answerOf (converted formula table display work output)
-  pub clears : work′ ≡ workAfter (converted formula table display work output) work
-  pub writes : output′ ≡ outputAfter (converted formula table display work output) output
+pub record Call (formula table : List ℕ) (display : Bool) (field : ℕ) (work output : List ℕ) (answer : Result ℕ) (work′ output′ : List ℕ) : Type 0 where
+  pub answers : answer ≡ answerOf (converted formula table display field work output)
+  pub clears : work′ ≡ workAfter (converted formula table display field work output) work
+  pub writes : output′ ≡ outputAfter (converted formula table display field work output) output

@@ -11,6 +11,7 @@ use Prim.Native.Nat.{ℕ, zero, suc}
 use lib.ListN.{length, take, drop, replicate}
 use Rattle.spec.specs.Symbols.{bytes, is}
 use Rattle.spec.specs.Result.{Result, passed, refused}
+use Rattle.spec.specs.Finish.{allTall}
 use Rattle.spec.specs.Pipeline.{leastWork, converted, outputAfter, workAfter}
 
 -- ---- the input: a line `d` (display on) or `i` (off), then the formula to the end
@@ -50,7 +51,7 @@ reported (refused number) = bytes "refused " ++ decimal number ++ bytes "\n"
 
 -- what the entry makes of the formula
 abbrev pub answered : List ℕ → List ℕ → Bool → Result (List ℕ)
-answered input table display = converted (formulaOf input) table display (replicate leastWork 0) (replicate mostOutput 0)
+answered input table display = converted (formulaOf input) table display allTall (replicate leastWork 0) (replicate mostOutput 0)
 
 abbrev pub printed : List ℕ → List ℕ → List ℕ
 printed input table = elim (firstLine input) [ none ↦ bytes "first line: d or i\n" | some display ↦ reported (answered input table display) ]

@@ -2,7 +2,6 @@
 -- Assumes nothing.
 --     callStages           the call rewritings in the Rust's order, each as it is and as the Rust has it
 --     somePasses           on the way some search passes over a parenthesis
---     admitted-alike       calls come to the same if what follows their first tests does the same with the formula
 --     converted-as-rust    where none does, a call comes to what it comes to with the Rust's
 --     unquoted-as-rust     none does where the formula has no quote
 use mathlib.Core.Path.{_≡_, refl, sym, ap, ap₂, _∙_}
@@ -10,18 +9,18 @@ use mathlib.Core.Bool.{Bool, true, false, not, _&&_, _||_, false≢true}
 use mathlib.Core.List.{List, [], _∷_, _++_}
 use mathlib.Core.Option.{Option, none, some}
 use Prim.Native.Nat.{ℕ, zero, suc}
-use lib.Dec.{ltb}
 use lib.ListN.{length, drop}
-use Rattle.spec.specs.Symbols.{bytes, is, any, foreign, trim, trimQuotes, same, until, starts, find}
+use Rattle.spec.specs.Symbols.{bytes, is, any, trim, trimQuotes, same, until, starts, find}
 use Rattle.spec.specs.Sweep.{Rule, reached}
 use Rattle.spec.specs.Result.{Result, passed, refused, _then_, grown, stage}
 use Rattle.spec.specs.Closing.{findMatchingParen, orEnd, quotedAfter, seenFrom, overQuotes}
 use Rattle.spec.specs.Calls.{calling, convertCalls, convertCases, attachOnce, convertAttach, binom, convertBinom, convertFloorCeilAbs}
 use Rattle.spec.specs.Quotes.{convertTextQuotes}
-use Rattle.spec.specs.Table.{Definition, definitions}
+use Rattle.spec.specs.Table.{Definition}
 use Rattle.spec.specs.Definitions.{applyDefinitionsOutsideText}
 use Rattle.spec.specs.Finish.{convertAlignment, dropThinSpaceAfterCommands}
-use Rattle.spec.specs.Pipeline.{mostFormula, leastWork, markSolidus, convertSyntax, typstToLatex, definitionsOr, readable, admitted, fitting, converted}
+use Rattle.spec.specs.Pipeline.{markSolidus, convertSyntax, typstToLatex, definitionsOr, fitting, converted}
+use Rattle.spec.specs.Laws.Admission.{admitted-alike}
 use Rattle.spec.specs.Laws.Booleans.{or-neither}
 use Rattle.spec.specs.Laws.Names.{same-refl}
 use Rattle.stage_laws.specs.Each.{Each, done, more, EachIf, nowhere, there, each-drop, each-find}
@@ -195,38 +194,25 @@ before-quotes-as-rust s e =
     ∙ stages-alike all-alike (stage markSolidus s) e
     ∙ sym (rust-last-apart (rewriteBy (λ c. c .rust) firstStages (stage markSolidus s)))
 
-latex-as-rust : (ds : List Definition) (display : Bool) (s : List ℕ) → somePasses callStages (stage markSolidus s) ≡ false → typstToLatex ds display s ≡ latexWithRustCalls ds display s
+latex-as-rust : (ds : List Definition) (display : Bool) (field : ℕ) (s : List ℕ) → somePasses callStages (stage markSolidus s) ≡ false → typstToLatex ds display field s ≡ latexWithRustCalls ds display field s
 unfolding typstToLatex
-latex-as-rust ds display s e =
-    ap (λ r. r then stage convertTextQuotes then applyDefinitionsOutsideText ds then convertSyntax display then stage convertAlignment then stage dropThinSpaceAfterCommands) (before-quotes-as-rust s e)
-
-pub admitted-alike : (formula table work : List ℕ) (f g : List ℕ → Result (List ℕ)) → f formula ≡ g formula → (admitted formula table work then f) ≡ (admitted formula table work then g)
-admitted-alike formula table work f g alike = go (ltb (length work) leastWork) (ltb mostFormula (length formula)) (any foreign formula) (definitions table)
-  where
-    through : Bool → Bool → Bool → Option (List Definition) → Result (List ℕ)
-    through a b c o = elim a [ true ↦ refused 4 | false ↦ elim b [ true ↦ refused 2 | false ↦ elim c [ true ↦ refused 1 | false ↦ readable formula o ] ] ]
-
-    go : (a b c : Bool) (o : Option (List Definition)) → (through a b c o then f) ≡ (through a b c o then g)
-    go true b c o = refl
-    go false true c o = refl
-    go false false true o = refl
-    go false false false none = refl
-    go false false false (some ds) = alike
+latex-as-rust ds display field s e =
+    ap (λ r. r then stage convertTextQuotes then applyDefinitionsOutsideText ds then convertSyntax display field then stage convertAlignment then stage dropThinSpaceAfterCommands) (before-quotes-as-rust s e)
 
 pub converted-as-rust :
-    (formula table : List ℕ) (display : Bool) (work output : List ℕ) → somePasses callStages (stage markSolidus formula) ≡ false
-    → converted formula table display work output ≡ convertedWithRustCalls formula table display work output
+    (formula table : List ℕ) (display : Bool) (field : ℕ) (work output : List ℕ) → somePasses callStages (stage markSolidus formula) ≡ false
+    → converted formula table display field work output ≡ convertedWithRustCalls formula table display field work output
 unfolding converted
-converted-as-rust formula table display work output e =
-    ap (λ r. r then fitting output) (admitted-alike formula table work (typstToLatex (definitionsOr table) display) (latexWithRustCalls (definitionsOr table) display) (latex-as-rust (definitionsOr table) display formula e))
+converted-as-rust formula table display field work output e =
+    ap (λ r. r then fitting output) (admitted-alike formula table field work (typstToLatex (definitionsOr table) display field) (latexWithRustCalls (definitionsOr table) display field) (latex-as-rust (definitionsOr table) display field formula e))
 
 each-unquoted : (s : List ℕ) → any (is "\"") s ≡ false → Each unquoted s
 each-unquoted [] e = done
 each-unquoted (x ∷ s) e = let both = or-neither (is "\"" x) (any (is "\"") s) e in more (ap not (both .0)) (each-unquoted s (both .1))
 
 pub unquoted-as-rust :
-    (formula table : List ℕ) (display : Bool) (work output : List ℕ) → any (is "\"") formula ≡ false
-    → converted formula table display work output ≡ convertedWithRustCalls formula table display work output
-unquoted-as-rust formula table display work output e =
-    converted-as-rust formula table display work output
+    (formula table : List ℕ) (display : Bool) (field : ℕ) (work output : List ℕ) → any (is "\"") formula ≡ false
+    → converted formula table display field work output ≡ convertedWithRustCalls formula table display field work output
+unquoted-as-rust formula table display field work output e =
+    converted-as-rust formula table display field work output
     (stages-spare all-alike (stage-passes markSolidus (λ t. solidus-each writes-unquoted) formula (each-unquoted formula e)))

@@ -10,7 +10,7 @@ use Rattle.spec.specs.Table.{Definition}
 use Rattle.spec.specs.Fractions.{mostRounds, convertFractions}
 use Rattle.spec.specs.Finish.{escapeSetBraces, convertLr, sizeDelimitersToContent, escapePercent, convertAlignment, dropThinSpaceAfterCommands}
 use Rattle.spec.specs.Pipeline.{unmarkSolidus, onDisplay, convertSyntax, typstToLatex, definitionsOr, fitting, converted}
-use Rattle.stage_laws.specs.CallStages.{admitted-alike}
+use Rattle.spec.specs.Laws.Admission.{admitted-alike}
 use Rattle.stage_laws.specs.RustFractions.{rustFractions, beforeSyntax, beforeFractions, syntaxWithRustFractions, latexWithRustFractions, convertedWithRustFractions}
 use Rattle.stage_laws.specs.LeftSlashes.{leavesInRounds, fractions-as-rust}
 
@@ -28,24 +28,24 @@ displayed-as-rust true (passed s) e = fractions-as-rust s e
 displayed-as-rust false (passed s) e = refl
 displayed-as-rust display (refused n) e = refl
 
-syntax-as-rust : (display : Bool) (s : List ℕ) → display && leftIn (beforeFractions s) ≡ false → convertSyntax display s ≡ syntaxWithRustFractions display s
+syntax-as-rust : (display : Bool) (field : ℕ) (s : List ℕ) → display && leftIn (beforeFractions s) ≡ false → convertSyntax display field s ≡ syntaxWithRustFractions display field s
 unfolding convertSyntax
-syntax-as-rust display s e =
-    ap (λ r. r then stage unmarkSolidus then stage escapeSetBraces then convertLr then onDisplay display (stage sizeDelimitersToContent) then stage escapePercent)
+syntax-as-rust display field s e =
+    ap (λ r. r then stage unmarkSolidus then stage escapeSetBraces then convertLr then onDisplay display (stage (sizeDelimitersToContent field)) then stage escapePercent)
     (displayed-as-rust display (beforeFractions s) e)
 
-latex-as-rust : (ds : List Definition) (display : Bool) (s : List ℕ) → someLeft ds display s ≡ false → typstToLatex ds display s ≡ latexWithRustFractions ds display s
+latex-as-rust : (ds : List Definition) (display : Bool) (field : ℕ) (s : List ℕ) → someLeft ds display s ≡ false → typstToLatex ds display field s ≡ latexWithRustFractions ds display field s
 unfolding typstToLatex
-latex-as-rust ds display s e = ap (λ r. r then stage convertAlignment then stage dropThinSpaceAfterCommands) (go (beforeSyntax ds s) e)
+latex-as-rust ds display field s e = ap (λ r. r then stage convertAlignment then stage dropThinSpaceAfterCommands) (go (beforeSyntax ds s) e)
   where
-    go : (r : Result (List ℕ)) → display && leftIn (r then beforeFractions) ≡ false → (r then convertSyntax display) ≡ (r then syntaxWithRustFractions display)
-    go (passed t) e = syntax-as-rust display t e
+    go : (r : Result (List ℕ)) → display && leftIn (r then beforeFractions) ≡ false → (r then convertSyntax display field) ≡ (r then syntaxWithRustFractions display field)
+    go (passed t) e = syntax-as-rust display field t e
     go (refused n) e = refl
 
 pub converted-as-rust-fractions :
-    (formula table : List ℕ) (display : Bool) (work output : List ℕ) → someLeft (definitionsOr table) display formula ≡ false
-    → converted formula table display work output ≡ convertedWithRustFractions formula table display work output
+    (formula table : List ℕ) (display : Bool) (field : ℕ) (work output : List ℕ) → someLeft (definitionsOr table) display formula ≡ false
+    → converted formula table display field work output ≡ convertedWithRustFractions formula table display field work output
 unfolding converted
-converted-as-rust-fractions formula table display work output e =
+converted-as-rust-fractions formula table display field work output e =
     ap (λ r. r then fitting output)
-    (admitted-alike formula table work (typstToLatex (definitionsOr table) display) (latexWithRustFractions (definitionsOr table) display) (latex-as-rust (definitionsOr table) display formula e))
+    (admitted-alike formula table field work (typstToLatex (definitionsOr table) display field) (latexWithRustFractions (definitionsOr table) display field) (latex-as-rust (definitionsOr table) display field formula e))

@@ -25,12 +25,9 @@ use Rattle.spec.specs.Fractions.{convertRegularFractions, mostRounds, settle, c
 use Rattle.spec.specs.Finish.{escapeSetBraces, bareDelimiter, lr, convertLr, sizeDelimitersToContent, escapePercent, convertAlignment, dropThinSpaceAfterCommands}
 use Rattle.spec.specs.Pipeline.{markSolidus, unmarkSolidus, onDisplay, convertSyntax, typstToLatex}
 
--- the numbers of refusals that no call of the entry gives
-abbrev pub notGiven : ℕ → Bool
-notGiven n = eqb n 6 || ltb 10 n
-
+-- the numbers of these refusals
 abbrev pub early : ℕ → Bool
-early n = eqb n 4 || notGiven n
+early n = eqb n 4 || (eqb n 6 || ltb 10 n)
 
 pub data Late {A : Type 0} : Result A → Type 0 where
   passes : {a : A} → Late (passed a)
@@ -130,9 +127,9 @@ scripts-late : (sign : ℕ) (s : List ℕ) → Late (convertScripts sign s)
 scripts-late sign s = then-late _ (then-late _ (stage-late (convertParenToBrace sign) s) (stage-late (wrapTextSubscripts sign))) (stage-late (wrapMulticharScripts sign))
 
 -- ---- all of them
-syntax-late : (display : Bool) (s : List ℕ) → Late (convertSyntax display s)
+syntax-late : (display : Bool) (field : ℕ) (s : List ℕ) → Late (convertSyntax display field s)
 unfolding convertSyntax
-syntax-late display s =
+syntax-late display field s =
     then-late _ (then-late _ (then-late _ (then-late _ (then-late _ (then-late _ (then-late _ (then-late _ (then-late _ (then-late _ (then-late _ (then-late _
     (stage-late convertSqrt s)
     (rows-late functionMappings))
@@ -145,7 +142,7 @@ syntax-late display s =
     (stage-late unmarkSolidus))
     (stage-late escapeSetBraces))
     lr-late)
-    (display-late display (stage sizeDelimitersToContent) (stage-late sizeDelimitersToContent)))
+    (display-late display (stage (sizeDelimitersToContent field)) (stage-late (sizeDelimitersToContent field))))
     (stage-late escapePercent)
 
 floor-ceil-abs-late : (s : List ℕ) → Late (convertFloorCeilAbs s)
@@ -158,9 +155,9 @@ floor-ceil-abs-late s =
     (stage-late convertFrak))
     (stage-late convertUprightAgain)
 
-pub stages-late : (ds : List Definition) (display : Bool) (s : List ℕ) → Late (typstToLatex ds display s)
+pub stages-late : (ds : List Definition) (display : Bool) (field : ℕ) (s : List ℕ) → Late (typstToLatex ds display field s)
 unfolding typstToLatex
-stages-late ds display s =
+stages-late ds display field s =
     then-late _ (then-late _ (then-late _ (then-late _ (then-late _ (then-late _ (then-late _ (then-late _ (then-late _ (then-late _ (then-late _ (then-late _ (then-late _
     (stage-late markSolidus s)
     (stage-late convertOp))
@@ -173,6 +170,6 @@ stages-late ds display s =
     floor-ceil-abs-late)
     (stage-late convertTextQuotes))
     (outside-late ds))
-    (syntax-late display))
+    (syntax-late display field))
     (stage-late convertAlignment))
     (stage-late dropThinSpaceAfterCommands)

@@ -16,6 +16,8 @@ pub mod RustFractions
 pub mod LeftSlashes
 pub mod LeftExample
 pub mod FractionStages
+pub mod RustSizing
+pub mod SizingStages
 pub mod OperandLengths
 pub mod Slashes
 pub mod RoundCourse

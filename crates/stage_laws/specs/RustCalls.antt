@@ -104,14 +104,14 @@ rustBeforeQuotes s =
     then stage rustUpright
     then rustFloorCeilAbs
 
-abbrev pub latexWithRustCalls : List Definition → Bool → List ℕ → Result (List ℕ)
-latexWithRustCalls ds display s =
+abbrev pub latexWithRustCalls : List Definition → Bool → ℕ → List ℕ → Result (List ℕ)
+latexWithRustCalls ds display field s =
     rustBeforeQuotes s
     then stage convertTextQuotes
     then applyDefinitionsOutsideText ds
-    then convertSyntax display
+    then convertSyntax display field
     then stage convertAlignment
     then stage dropThinSpaceAfterCommands
 
-abbrev pub convertedWithRustCalls : List ℕ → List ℕ → Bool → List ℕ → List ℕ → Result (List ℕ)
-convertedWithRustCalls formula table display work output = admitted formula table work then latexWithRustCalls (definitionsOr table) display then fitting output
+abbrev pub convertedWithRustCalls : List ℕ → List ℕ → Bool → ℕ → List ℕ → List ℕ → Result (List ℕ)
+convertedWithRustCalls formula table display field work output = admitted formula table field work then latexWithRustCalls (definitionsOr table) display field then fitting output

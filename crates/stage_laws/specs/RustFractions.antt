@@ -98,18 +98,18 @@ beforeSyntax ds s = beforeDefinitions s then applyDefinitionsOutsideText ds
 abbrev pub beforeFractions : List ℕ → Result (List ℕ)
 beforeFractions s = beforeWords s then convertWords then convertGreekCapitals then convertSubscripts then convertSuperscripts
 
-abbrev pub syntaxWithRustFractions : Bool → List ℕ → Result (List ℕ)
-syntaxWithRustFractions display s =
+abbrev pub syntaxWithRustFractions : Bool → ℕ → List ℕ → Result (List ℕ)
+syntaxWithRustFractions display field s =
     beforeFractions s
     then onDisplay display rustFractions
     then stage unmarkSolidus
     then stage escapeSetBraces
     then convertLr
-    then onDisplay display (stage sizeDelimitersToContent)
+    then onDisplay display (stage (sizeDelimitersToContent field))
     then stage escapePercent
 
-abbrev pub latexWithRustFractions : List Definition → Bool → List ℕ → Result (List ℕ)
-latexWithRustFractions ds display s = beforeSyntax ds s then syntaxWithRustFractions display then stage convertAlignment then stage dropThinSpaceAfterCommands
+abbrev pub latexWithRustFractions : List Definition → Bool → ℕ → List ℕ → Result (List ℕ)
+latexWithRustFractions ds display field s = beforeSyntax ds s then syntaxWithRustFractions display field then stage convertAlignment then stage dropThinSpaceAfterCommands
 
-abbrev pub convertedWithRustFractions : List ℕ → List ℕ → Bool → List ℕ → List ℕ → Result (List ℕ)
-convertedWithRustFractions formula table display work output = admitted formula table work then latexWithRustFractions (definitionsOr table) display then fitting output
+abbrev pub convertedWithRustFractions : List ℕ → List ℕ → Bool → ℕ → List ℕ → List ℕ → Result (List ℕ)
+convertedWithRustFractions formula table display field work output = admitted formula table field work then latexWithRustFractions (definitionsOr table) display field then fitting output

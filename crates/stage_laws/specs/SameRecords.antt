@@ -33,12 +33,12 @@ pub record SameRecords (table table′ : List ℕ) : Type 0 where
   pub read′ : records table′ ≡ some second
   pub rearranged : Rearranged first second
 
--- any two calls of the entry with these tables, and the same formula, display and buffers, answer the same and leave the same bytes
+-- any two calls of the entry with these tables, and the same formula, display, tall field and buffers, answer the same and leave the same bytes
 abbrev pub CallsAlike : List ℕ → List ℕ → Type 0
 CallsAlike table table′ =
-    (formula work output work′ output′ work″ output″ : List ℕ) (display : Bool) (answer answer′ : Result ℕ)
-    → Call formula table display work output answer work′ output′
-    → Call formula table′ display work output answer′ work″ output″
+    (formula work output work′ output′ work″ output″ : List ℕ) (display : Bool) (field : ℕ) (answer answer′ : Result ℕ)
+    → Call formula table display field work output answer work′ output′
+    → Call formula table′ display field work output answer′ work″ output″
     → (answer ≡ answer′) × ((work′ ≡ work″) × (output′ ≡ output″))
 
 -- ---- only the order of the definitions counts
@@ -50,10 +50,10 @@ outside-text-order : (ds es : List Definition) (s : List ℕ) → inOrder ds ≡
 unfolding applyDefinitionsOutsideText
 outside-text-order ds es s h = ap (λ order. applyDefinitions order (holdTexts s) then putBack) h
 
-typst-to-latex-order : (ds es : List Definition) (display : Bool) (s : List ℕ) → inOrder ds ≡ inOrder es → typstToLatex ds display s ≡ typstToLatex es display s
+typst-to-latex-order : (ds es : List Definition) (display : Bool) (field : ℕ) (s : List ℕ) → inOrder ds ≡ inOrder es → typstToLatex ds display field s ≡ typstToLatex es display field s
 unfolding typstToLatex
-typst-to-latex-order ds es display s h =
-    ap (λ r. r then convertSyntax display then stage convertAlignment then stage dropThinSpaceAfterCommands)
+typst-to-latex-order ds es display field s h =
+    ap (λ r. r then convertSyntax display field then stage convertAlignment then stage dropThinSpaceAfterCommands)
     (then-same (beforeDefinitions s) (λ u. outside-text-order ds es u h))
 
 -- ---- number 3
@@ -115,16 +115,16 @@ module _ {table table′ : List ℕ} (t : SameRecords table table′) where
   -- ---- calls
   module _ (limit : SameLimit table table′) where
     pub converted-same :
-        (formula : List ℕ) (display : Bool) (work output : List ℕ) → converted formula table display work output ≡ converted formula table′ display work output
+        (formula : List ℕ) (display : Bool) (field : ℕ) (work output : List ℕ) → converted formula table display field work output ≡ converted formula table′ display field work output
     unfolding converted
-    converted-same formula display work output =
+    converted-same formula display field work output =
         let d = definitions-same limit formula in
-        ap (λ r. r then typstToLatex (definitionsOr table) display then fitting output) (admitted-same formula table table′ work (d .0))
-        ∙ ap (λ r. r then fitting output) (then-same (admitted formula table′ work) (λ s. typst-to-latex-order (definitionsOr table) (definitionsOr table′) display s (d .1)))
+        ap (λ r. r then typstToLatex (definitionsOr table) display field then fitting output) (admitted-same formula table table′ field work (d .0))
+        ∙ ap (λ r. r then fitting output) (then-same (admitted formula table′ field work) (λ s. typst-to-latex-order (definitionsOr table) (definitionsOr table′) display field s (d .1)))
 
     pub calls-alike : CallsAlike table table′
-    calls-alike formula work output work′ output′ work″ output″ display answer answer′ a b =
-        let e = converted-same formula display work output in (
+    calls-alike formula work output work′ output′ work″ output″ display field answer answer′ a b =
+        let e = converted-same formula display field work output in (
           a .answers ∙ ap answerOf e ∙ sym (b .answers),
           (a .clears ∙ ap (λ r. workAfter r work) e ∙ sym (b .clears), a .writes ∙ ap (λ r. outputAfter r output) e ∙ sym (b .writes)),
         )

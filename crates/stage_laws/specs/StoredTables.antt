@@ -15,7 +15,9 @@ use borrow.Author.Tests.{eqb-true}
 use Rattle.spec.specs.Symbols.{foreign, any}
 use Rattle.spec.specs.Result.{Result, passed, refused, _then_}
 use Rattle.spec.specs.Table.{Definition, Form, narrow, wide, formOf, start, narrowLengths, definitionOf, record-before, recordsWith, recordsIn, mostBytes, mostRecords, faulty, whole, definitions}
+use Rattle.spec.specs.Finish.{allTall}
 use Rattle.spec.specs.Pipeline.{mostFormula, leastWork, typstToLatex, definitionsOr, readable, admitted, fitting, converted, answerOf, outputAfter, workAfter, Call}
+use Rattle.stage_laws.specs.Answers.{call-as}
 
 unfoldable pub storedRecordsWith : ℕ → List ℕ → Option (List Definition)
 storedRecordsWith zero s = some []
@@ -30,13 +32,13 @@ storedRecords table = storedRecordsWith (length table) table
 abbrev pub storedDefinitions : List ℕ → Option (List Definition)
 storedDefinitions table = elim (ltb mostBytes (length table)) [ true ↦ none | false ↦ whole (storedRecords table) ]
 
--- numbers 4, 2, 1 as with a table that number 3 can't refuse, then 3
-abbrev pub storedAdmitted : List ℕ → List ℕ → List ℕ → Result (List ℕ)
-storedAdmitted formula table work = admitted formula [] work then (λ s. readable s (storedDefinitions table))
+-- numbers 4, 15, 2, 1 as with a table that number 3 can't refuse, then 3
+abbrev pub storedAdmitted : List ℕ → List ℕ → ℕ → List ℕ → Result (List ℕ)
+storedAdmitted formula table field work = admitted formula [] field work then (λ s. readable s (storedDefinitions table))
 
-abbrev pub storedConverted : List ℕ → List ℕ → Bool → List ℕ → List ℕ → Result (List ℕ)
-storedConverted formula table display work output =
-    storedAdmitted formula table work then typstToLatex (Option·getD (storedDefinitions table) []) display then fitting output
+abbrev pub storedConverted : List ℕ → List ℕ → Bool → ℕ → List ℕ → List ℕ → Result (List ℕ)
+storedConverted formula table display field work output =
+    storedAdmitted formula table field work then typstToLatex (Option·getD (storedDefinitions table) []) display field then fitting output
 
 -- ---- not begun by 00
 narrow-with : (k : ℕ) (s : List ℕ) → recordsWith narrow k s ≡ storedRecordsWith k s
@@ -53,34 +55,33 @@ definitions-as-stored table e =
     ap (λ (o : Option (List Definition)). elim (ltb mostBytes (length table)) as (λ _. Option (List Definition)) [ true ↦ none | false ↦ whole o ])
     (ap (λ (form : Form). recordsIn form (drop (start form) table)) e ∙ narrow-with (length table) table)
 
-admitted-by : (formula table work : List ℕ) → admitted formula table work ≡ (admitted formula [] work then (λ s. readable s (definitions table)))
+admitted-by : (formula table : List ℕ) (field : ℕ) (work : List ℕ) → admitted formula table field work ≡ (admitted formula [] field work then (λ s. readable s (definitions table)))
 unfolding definitions
-admitted-by formula table work = go (ltb (length work) leastWork) (ltb mostFormula (length formula)) (any foreign formula)
+admitted-by formula table field work = go (ltb (length work) leastWork) (ltb allTall field) (ltb mostFormula (length formula)) (any foreign formula)
   where
-    first : Bool → Bool → Bool → Result (List ℕ) → Result (List ℕ)
-    first a b c r = elim a [ true ↦ refused 4 | false ↦ elim b [ true ↦ refused 2 | false ↦ elim c [ true ↦ refused 1 | false ↦ r ] ] ]
+    first : Bool → Bool → Bool → Bool → Result (List ℕ) → Result (List ℕ)
+    first a b c d r = elim a [ true ↦ refused 4 | false ↦ elim b [ true ↦ refused 15 | false ↦ elim c [ true ↦ refused 2 | false ↦ elim d [ true ↦ refused 1 | false ↦ r ] ] ] ]
 
-    go : (a b c : Bool) → first a b c (readable formula (definitions table)) ≡ (first a b c (passed formula) then (λ s. readable s (definitions table)))
-    go true b c = refl
-    go false true c = refl
-    go false false true = refl
-    go false false false = refl
+    go : (a b c d : Bool) → first a b c d (readable formula (definitions table)) ≡ (first a b c d (passed formula) then (λ s. readable s (definitions table)))
+    go true b c d = refl
+    go false true c d = refl
+    go false false true d = refl
+    go false false false true = refl
+    go false false false false = refl
 
 pub converted-as-stored :
-    (formula table : List ℕ) (display : Bool) (work output : List ℕ) → formOf table ≡ narrow
-    → converted formula table display work output ≡ storedConverted formula table display work output
+    (formula table : List ℕ) (display : Bool) (field : ℕ) (work output : List ℕ) → formOf table ≡ narrow
+    → converted formula table display field work output ≡ storedConverted formula table display field work output
 unfolding converted
-converted-as-stored formula table display work output e =
-    ap (λ r. r then typstToLatex (definitionsOr table) display then fitting output) (admitted-by formula table work)
-    ∙ ap (λ (ds : Option (List Definition)). admitted formula [] work then (λ s. readable s ds) then typstToLatex (Option·getD ds []) display then fitting output) (definitions-as-stored table e)
+converted-as-stored formula table display field work output e =
+    ap (λ r. r then typstToLatex (definitionsOr table) display field then fitting output) (admitted-by formula table field work)
+    ∙ ap (λ (ds : Option (List Definition)). admitted formula [] field work then (λ s. readable s ds) then typstToLatex (Option·getD ds []) display field then fitting output) (definitions-as-stored table e)
 
 pub stored-call :
-    {formula table work output work′ output′ : List ℕ} {display : Bool} {answer : Result ℕ} → formOf table ≡ narrow
-    → Call formula table display work output answer work′ output′
-    → (let before = storedConverted formula table display work output in (answer ≡ answerOf before) × ((work′ ≡ workAfter before work) × (output′ ≡ outputAfter before output)))
-stored-call {formula} {table} {work} {output} {display = display} e c =
-    let same = converted-as-stored formula table display work output e in
-    (c .answers ∙ ap answerOf same, (c .clears ∙ ap (λ r. workAfter r work) same, c .writes ∙ ap (λ r. outputAfter r output) same))
+    {formula table work output work′ output′ : List ℕ} {display : Bool} {field : ℕ} {answer : Result ℕ} → formOf table ≡ narrow
+    → Call formula table display field work output answer work′ output′
+    → (let before = storedConverted formula table display field work output in (answer ≡ answerOf before) × ((work′ ≡ workAfter before work) × (output′ ≡ outputAfter before output)))
+stored-call {formula} {table} {work} {output} {display = display} {field} e c = call-as c (converted-as-stored formula table display field work output e)
 
 -- ---- begun by 00: the first name was empty
 nameless : (latex : List ℕ) (o : Option (List Definition)) → whole (Option·map (λ (ds : List Definition). record { name = []; latex = latex } ∷ ds) o) ≡ none

@@ -41,7 +41,7 @@ fn convert_syntax(work: &mut [u8], section: usize, text: Progress) -> Progress
         14 => fractions::convert_fractions(work, text),
         15 => escapes::escape_set_braces(work, text),
         16 => lr::convert_lr(work, text),
-        17 => sizing::size_delimiters_to_content(work, text),
+        17 => sizing::size_delimiters_to_content(work, text, text::ALL_TALL),
         18 => alignment::convert_alignment(work, text),
         _ => thin_spaces::drop_thin_space_after_commands(work, text),
     }

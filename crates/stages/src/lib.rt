@@ -12,10 +12,10 @@ ghost use Rattle.text.specs.Untouched.{Untouched};
 ghost use Rattle.stages.specs.Fit.{Bare, Admissible};
 
 // The body of the Rust's `typst_to_latex`.
-pub fn convert(work: &mut [u8], text: Progress, table: &[u8], display: bool) -> Progress
+pub fn convert(work: &mut [u8], text: Progress, table: &[u8], display: bool, field: u32) -> Progress
     requires { ⌜ Ready (now work) text ⌝ }
     requires { ⌜ Admissible (now table) (shown text (now work)) ⌝ }
-    ensures { λ r. ⌜ Answered (now (work .entry)) (now (work .exit)) text r (typstToLatex (definitionsOr (now (table .entry))) display) ⌝ }
+    ensures { λ r. ⌜ Answered (now (work .entry)) (now (work .exit)) text r (typstToLatex (definitionsOr (now (table .entry))) display field) ⌝ }
 {
     let t = escapes::mark_solidus(work, text);
     let t = call_single::convert_op(work, t);
@@ -28,16 +28,16 @@ pub fn convert(work: &mut [u8], text: Progress, table: &[u8], display: bool) -> 
     let t = call_single::convert_floor_ceil_abs(work, t);
     let t = quotes::convert_text_quotes(work, t);
     let t = apply_definitions_outside_text(work, t, table);
-    let t = convert_syntax(work, t, display);
+    let t = convert_syntax(work, t, display, field);
     let t = alignment::convert_alignment(work, t);
     thin_spaces::drop_thin_space_after_commands(work, t)
 }
 
 // The Rust's `convert_syntax`.
-fn convert_syntax(work: &mut [u8], text: Progress, display: bool) -> Progress
+fn convert_syntax(work: &mut [u8], text: Progress, display: bool, field: u32) -> Progress
     requires { ⌜ Ready (now work) text ⌝ }
     requires { ⌜ Bare (shown text (now work)) ⌝ }
-    ensures { λ r. ⌜ Answered (now (work .entry)) (now (work .exit)) text r (convertSyntax display) ⌝ }
+    ensures { λ r. ⌜ Answered (now (work .entry)) (now (work .exit)) text r (convertSyntax display field) ⌝ }
 {
     let t = pattern_rewriting::convert_sqrt(work, text);
     let t = name_words::convert_functions(work, t);
@@ -50,7 +50,7 @@ fn convert_syntax(work: &mut [u8], text: Progress, display: bool) -> Progress
     let t = escapes::unmark_solidus(work, t);
     let t = escapes::escape_set_braces(work, t);
     let t = lr::convert_lr(work, t);
-    let t = size_delimiters_to_content(work, t, display);
+    let t = size_delimiters_to_content(work, t, display, field);
     escapes::escape_percent(work, t)
 }
 
@@ -79,12 +79,17 @@ fn convert_fractions(work: &mut [u8], text: Progress, display: bool) -> Progress
 }
 
 // Only on display.
-fn size_delimiters_to_content(work: &mut [u8], text: Progress, display: bool) -> Progress
+fn size_delimiters_to_content(
+    work: &mut [u8],
+    text: Progress,
+    display: bool,
+    field: u32,
+) -> Progress
     requires { ⌜ Ready (now work) text ⌝ }
-    ensures { λ r. ⌜ Staged (now (work .entry)) (now (work .exit)) text r (onDisplay display (stage sizeDelimitersToContent)) ⌝ }
+    ensures { λ r. ⌜ Staged (now (work .entry)) (now (work .exit)) text r (onDisplay display (stage (sizeDelimitersToContent field))) ⌝ }
 {
     if display {
-        return sizing::size_delimiters_to_content(work, text);
+        return sizing::size_delimiters_to_content(work, text, field);
     }
     text
 }

@@ -17,6 +17,9 @@ ghost use Rattle.text.specs.Due.{Awaited};
 // Number 2: the most bytes of a formula, and so of a plain text.
 pub const MOST_FORMULA: usize = 4_096;
 
+// The tall field in which all five commands count, as in the Rust. Number 15 is for a value above it.
+pub const ALL_TALL: u32 = 31;
+
 // The most symbols of a stage's finished text, and so the room of each of the two regions that texts lie in.
 pub const CAP: usize = 8_192;
 
@@ -33,10 +36,11 @@ pub enum Refusal {
     BareDelimiter,
     BarredSolidus,
     ShortOutput,
+    TallField,
     NoWord,
 }
 
-// The number of a refusal: document 01's, and document 02's 16.
+// The number of a refusal: document 01's, and document 02's 15 and 16.
 pub fn number(why: Refusal) -> u64
     ensures { λ r. ⌜ r ≡ numbered why ⌝ }
 {
@@ -51,6 +55,7 @@ pub fn number(why: Refusal) -> u64
         Refusal::BareDelimiter => 8,
         Refusal::BarredSolidus => 9,
         Refusal::ShortOutput => 10,
+        Refusal::TallField => 15,
         Refusal::NoWord => 16,
     }
 }

@@ -51,12 +51,12 @@ callees t = (
 )
 
 abbrev Inv-loop : size-lts.InvT-loop
-Inv-loop work₀ from n to count end total₀ i₀ work total i =
+Inv-loop work₀ from n to count field end total₀ i₀ work total i =
     (i ≤ n) × (end ≡ from + n) × (length work ≡ length work₀) × (total ≤ count + 7 * i)
-    × Filling work₀ work to mostSymbols count total (sizedAt (part from n work₀) i) (sizeDelimitersToContent (part from n work₀))
+    × Filling work₀ work to mostSymbols count total (sizedAt field (part from n work₀) i) (sizeDelimitersToContent field (part from n work₀))
 
 abbrev μ-loop : size-lts.MeasureT-loop
-μ-loop work₀ from n to count end total₀ i₀ work total i = n - i
+μ-loop work₀ from n to count field end total₀ i₀ work total i = n - i
 
 loop-holds : (t : ℕ) → size-lts.Need-loop-holds (callees t) (size-at t) size.Post Inv-loop μ-loop
 loop-holds t c =
@@ -66,7 +66,7 @@ loop-holds t c =
       refl,
       refl,
       omega arith,
-      subst (λ r. Filling (a .work .now) (a .work .now) (a .to) mostSymbols (a .count) (a .count) r (sizeDelimitersToContent s)) (sym (sized-first s)) (filling-none _ _ _ _ _),
+      subst (λ r. Filling (a .work .now) (a .work .now) (a .to) mostSymbols (a .count) (a .count) r (sizeDelimitersToContent (a .field) s)) (sym (sized-first (a .field) s)) (filling-none _ _ _ _ _),
     )
 
 piece-at-requires : (t : ℕ) → size-lts.Need-piece-at-requires (callees t) (size-at t) size.Post Inv-loop μ-loop
@@ -80,8 +80,8 @@ keeps : (t : ℕ) (c : size-lts.After-known-told (callees t) (size-at t) size.Po
     → (let at-loop : size-lts.At-loop (callees t) (size-at t) size.Post Inv-loop μ-loop = search in let k = c .before .k .given .0 .0 in (0 < k) × (at-loop .loop .i + k ≤ at-loop .before .before .args .n))
 keeps t c =
     let at-loop : size-lts.At-loop (callees t) (size-at t) size.Post Inv-loop μ-loop = search in (
-      kept-piece (at-loop .loop .i) (at-loop .before .before .pre .1) (at-loop .loop .inv .4) _ (c .before .before .before .piece-at .ensures) (c .before .k .given .1) .positive,
-      kept-fits (at-loop .loop .i) (at-loop .before .before .pre .1) (at-loop .loop .inv .4) _ (c .before .before .before .piece-at .ensures) (c .before .k .given .1),
+      kept-piece (at-loop .before .before .args .field) (at-loop .loop .i) (at-loop .before .before .pre .1) (at-loop .loop .inv .4) _ (c .before .before .before .piece-at .ensures) (c .before .k .given .1) .positive,
+      kept-fits (at-loop .before .before .args .field) (at-loop .loop .i) (at-loop .before .before .pre .1) (at-loop .loop .inv .4) _ (c .before .before .before .piece-at .ensures) (c .before .k .given .1),
     )
 
 copy-requires : (t : ℕ) → size-lts.Need-copy-requires (callees t) (size-at t) size.Post Inv-loop μ-loop
@@ -116,7 +116,7 @@ loop-again t c =
     let n = a .counted in
     let m = length-take k (drop (at-start .args .from + at-loop .loop .i) (at-loop .loop .work)) in
     let long = appended-long a in
-    (f .1, refl, omega arith, omega arith, kept-more (at-loop .loop .i) (at-start .pre .1) (at-loop .loop .inv .4) _ (at-piece-at .piece-at .ensures) (at-k .k .given .1) a)
+    (f .1, refl, omega arith, omega arith, kept-more (at-start .args .field) (at-loop .loop .i) (at-start .pre .1) (at-loop .loop .inv .4) _ (at-piece-at .piece-at .ensures) (at-k .k .given .1) a)
 
 put-left-requires : (t : ℕ) → size-lts.Need-put-left-requires (callees t) (size-at t) size.Post Inv-loop μ-loop
 put-left-requires t c κs =
@@ -127,7 +127,7 @@ put-left-requires t c κs =
 grows : (t : ℕ) (c : size-lts.After-known-told2 (callees t) (size-at t) size.Post Inv-loop μ-loop) → (let at-loop : size-lts.At-loop (callees t) (size-at t) size.Post Inv-loop μ-loop = search in at-loop .loop .i + c .before .k2 .given .0 .0 + 2 ≤ at-loop .before .before .args .n)
 grows t c =
     let at-loop : size-lts.At-loop (callees t) (size-at t) size.Post Inv-loop μ-loop = search in
-    grown-fits (at-loop .loop .i) (at-loop .before .before .pre .1) (at-loop .loop .inv .4) _ (c .before .before .before .piece-at .ensures) (c .before .k2 .given .1)
+    grown-fits (at-loop .before .before .args .field) (at-loop .loop .i) (at-loop .before .before .pre .1) (at-loop .loop .inv .4) _ (c .before .before .before .piece-at .ensures) (c .before .k2 .given .1)
 
 add-inside : (t : ℕ) → size-lts.Need-add-inside (callees t) (size-at t) size.Post Inv-loop μ-loop
 add-inside t c =
@@ -152,7 +152,7 @@ size-requires t c κs =
       record {
         source = omega arith;
         region = omega arith;
-        apart = inner-apart (at-loop .loop .i) p (at-loop .loop .inv .4) _ (at-known-told2 .before .before .before .piece-at .ensures) (at-known-told2 .before .k2 .given .1);
+        apart = inner-apart (at-loop .before .before .args .field) (at-loop .loop .i) p (at-loop .loop .inv .4) _ (at-known-told2 .before .before .before .piece-at .ensures) (at-known-told2 .before .k2 .given .1);
         short = omega arith;
         small = omega arith;
       },
@@ -212,7 +212,7 @@ loop-again-2 t c =
       refl,
       omega arith,
       omega arith,
-      grown-more (at-loop .loop .i) (at-start .pre .1) (at-loop .loop .inv .4) _ (at-known-told2 .before .before .before .piece-at .ensures) (at-known-told2 .before .k2 .given .1) left inner (c .before .before .before .closer-of .ensures) right,
+      grown-more (at-start .args .field) (at-loop .loop .i) (at-start .pre .1) (at-loop .loop .inv .4) _ (at-known-told2 .before .before .before .piece-at .ensures) (at-known-told2 .before .k2 .given .1) left inner (c .before .before .before .closer-of .ensures) right,
     )
 
 same-length : (t : ℕ) → size-lts.Need-same-length (callees t) (size-at t) size.Post Inv-loop μ-loop
@@ -225,7 +225,7 @@ returns t c =
     let p = l .before .before .pre .1 in
     let g = length-part (a .from) (a .n) (a .work .now) (p .source) in
     record {
-      appended = filling-all (l .loop .inv .4) (sized-end (part (a .from) (a .n) (a .work .now)) (l .loop .i) (omega arith));
+      appended = filling-all (l .loop .inv .4) (sized-end (a .field) (part (a .from) (a .n) (a .work .now)) (l .loop .i) (omega arith));
       few = omega arith;
     }
 

@@ -33,7 +33,7 @@ returns-2 c =
     ap (λ u. contains (bytes "(") u || contains (bytes "[") u) (sym (whole-part (t .0 .0) (t .0 .1 .0) (at-start .args .work .now)))
     ∙ sym (c .before .has-delimiter .ensures) ∙ not-true _ (c .if1 .taken)
     in
-    staged-same (at-start .pre) (t .1) sizeDelimitersToContent (size-openerless text (openerless-of text none))
+    staged-same (at-start .pre) (t .1) (sizeDelimitersToContent (at-start .args .field)) (size-openerless (at-start .args .field) text (openerless-of text none))
 
 sub-to : tie.Need-sub-to
 sub-to c =
@@ -52,7 +52,7 @@ returns-3 c =
     let at-text : tie.After-text = search in
     let at-start : tie.Start = search in
     let e = at-text .text .given .1 in
-    staged-written (at-start .pre) e sizeDelimitersToContent (appended-written (c .before .before .before .size .ensures .appended) (placed-regions (at-start .pre) e .region)) refl (c .finished .ensures)
+    staged-written (at-start .pre) e (sizeDelimitersToContent (at-start .args .field)) (appended-written (c .before .before .before .size .ensures .appended) (placed-regions (at-start .pre) e .region)) refl (c .finished .ensures)
 
 pub size-delimiters-to-content-spec : {M : Type 1} → statement M
 size-delimiters-to-content-spec =

@@ -46,6 +46,7 @@ use Rattle.spec.specs.Table.{
   nothing,
   put,
 }
+use Rattle.spec.specs.Finish.{allTall}
 use Rattle.spec.specs.Pipeline.{mostFormula, leastWork, readable, admitted}
 use Rattle.spec.specs.Laws.Booleans.{or-neither}
 use Rattle.spec.specs.Laws.Names.{same-sym}
@@ -210,16 +211,14 @@ definitions-some s ds e = go (ltb mostBytes (length s)) (records s) refl e
 
 -- of the table, admission asks only whether it is readable
 pub admitted-same :
-    (formula table table′ work : List ℕ) → readable formula (definitions table) ≡ readable formula (definitions table′)
-    → admitted formula table work ≡ admitted formula table′ work
-admitted-same formula table table′ work e =
-    ap (λ r. elim (ltb (length work) leastWork) as (λ _. Result (List ℕ)) [
-      | true ↦ refused 4
-      | false ↦ elim (ltb mostFormula (length formula)) as (λ _. Result (List ℕ)) [
-        | true ↦ refused 2
-        | false ↦ elim (any foreign formula) as (λ _. Result (List ℕ)) [ true ↦ refused 1 | false ↦ r ]
-      ]
-    ]) e
+    (formula table table′ : List ℕ) (field : ℕ) (work : List ℕ) → readable formula (definitions table) ≡ readable formula (definitions table′)
+    → admitted formula table field work ≡ admitted formula table′ field work
+admitted-same formula table table′ field work e =
+    ap (λ r. elim (ltb (length work) leastWork) as (λ _. Result (List ℕ)) [ true ↦ refused 4 | false ↦ elim (ltb allTall field) as (λ _. Result (List ℕ)) [ true ↦ refused 15 | false ↦ r ] ])
+    (ap (λ r. elim (ltb mostFormula (length formula)) as (λ _. Result (List ℕ)) [
+      | true ↦ refused 2
+      | false ↦ elim (any foreign formula) as (λ _. Result (List ℕ)) [ true ↦ refused 1 | false ↦ r ]
+    ]) e)
 
 -- ---- names
 pub sound-name-some : (name : List ℕ) → faultyName name ≡ false → 0 < length name

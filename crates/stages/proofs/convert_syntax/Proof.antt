@@ -15,8 +15,13 @@ convert-words-requires c κs =
     let at-convert-sqrt : tie.After-convert-sqrt = search in
     (search needs, unmarked-after before-words-passes (stages-before-words (at-convert-sqrt .convert-sqrt .ensures .0) (at-convert-functions .convert-functions .ensures .0) (at-convert-operators .convert-operators .ensures .0)) (at-convert-sqrt .before .before .before .pre .1))
 
+convert-subscripts-requires : tie.Need-convert-subscripts-requires
+convert-subscripts-requires c κs = search needs
+
 convert-superscripts-requires : tie.Need-convert-superscripts-requires
-convert-superscripts-requires c κs = search needs
+convert-superscripts-requires c κs =
+    let at-convert-subscripts-arg : tie.After-convert-subscripts-arg = search in
+    staged-ready (convert-subscripts-requires at-convert-subscripts-arg κs) (c .before .before .before .convert-subscripts .ensures .0)
 
 convert-fractions-requires : tie.Need-convert-fractions-requires
 convert-fractions-requires c κs =
@@ -96,7 +101,7 @@ convert-syntax-spec =
     (λ c κs. search needs)
     convert-words-requires
     (λ c κs. search needs)
-    (λ c κs. search needs)
+    convert-subscripts-requires
     convert-superscripts-requires
     convert-fractions-requires
     unmark-solidus-requires

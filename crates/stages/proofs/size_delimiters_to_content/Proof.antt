@@ -11,7 +11,7 @@ returns : tie.Need-returns
 returns c = let s = c .before .before in on-display (s .before .before .if1 .taken) (s .size-delimiters-to-content .ensures)
 
 returns-2 : tie.Need-returns-2
-returns-2 c = off-display (stage sizeDelimitersToContent) (c .if1 .left) (c .before .before .pre)
+returns-2 c = off-display (stage (sizeDelimitersToContent (c .before .before .args .field))) (c .if1 .left) (c .before .before .pre)
 
 pub size-delimiters-to-content-spec : {M : Type 1} → statement M
 size-delimiters-to-content-spec = tie.close (tie.spec (λ c κs. search needs) (λ c. search needs) returns returns-2)

@@ -10,7 +10,7 @@ use Rattle.sizing.proofs.pieces.tall_at.Statement.{statement}
 use Rattle.sizing.proofs.pieces.tall_at.Tie as tie
 
 returns : tie.Need-returns
-returns c = let a = c .before .before .before .args in tall-sized (a .s .now) (a .i) (sym (c .before .is-sized .ensures) ∙ c .if1 .taken)
+returns c = let a = c .before .before .before .args in tall-sized (a .field) (a .s .now) (a .i) (sym (c .before .is-sized .ensures) ∙ c .if1 .taken)
 
 tall-inside-requires : tie.Need-tall-inside-requires
 tall-inside-requires c κs = simp (length-take, length-drop) (omega arith)
@@ -21,8 +21,8 @@ returns-2 c =
     let at-is-sized : tie.After-is-sized = search in
     let at-start : tie.Start = search in
     let a = at-start .args in
-    tall-here (a .s .now) (a .i) (sym (at-is-sized .is-sized .ensures) ∙ else1 .if1 .left) (code "(") (code ")") (c .before .before .if2 .taken) refl refl
-    (subst (λ u. TallIn u (code "(") (code ")") (c .tall-inside .result)) (rest-of (a .i + 1) (a .s .now)) (c .tall-inside .ensures))
+    tall-here (a .field) (a .s .now) (a .i) (sym (at-is-sized .is-sized .ensures) ∙ else1 .if1 .left) (code "(") (code ")") (c .before .before .if2 .taken) refl refl
+    (subst (λ u. TallIn (a .field) u (code "(") (code ")") (c .tall-inside .result)) (rest-of (a .i + 1) (a .s .now)) (c .tall-inside .ensures))
 
 tall-inside-requires-2 : tie.Need-tall-inside-requires-2
 tall-inside-requires-2 c κs = simp (length-take, length-drop) (omega arith)
@@ -33,15 +33,15 @@ returns-3 c =
     let at-is-sized : tie.After-is-sized = search in
     let at-start : tie.Start = search in
     let a = at-start .args in
-    tall-here (a .s .now) (a .i) (sym (at-is-sized .is-sized .ensures) ∙ else1 .if1 .left) (code "[") (code "]") (c .before .before .if3 .taken) refl refl
-    (subst (λ u. TallIn u (code "[") (code "]") (c .tall-inside2 .result)) (rest-of (a .i + 1) (a .s .now)) (c .tall-inside2 .ensures))
+    tall-here (a .field) (a .s .now) (a .i) (sym (at-is-sized .is-sized .ensures) ∙ else1 .if1 .left) (code "[") (code "]") (c .before .before .if3 .taken) refl refl
+    (subst (λ u. TallIn (a .field) u (code "[") (code "]") (c .tall-inside2 .result)) (rest-of (a .i + 1) (a .s .now)) (c .tall-inside2 .ensures))
 
 returns-4 : tie.Need-returns-4
 returns-4 c =
     let at-is-sized : tie.After-is-sized = search in
     let at-start : tie.Start = search in
     let a = at-start .args in
-    tall-other (a .s .now) (a .i) (sym (at-is-sized .is-sized .ensures) ∙ c .before .before .before .if1 .left) (c .before .if2 .left) (c .if3 .left)
+    tall-other (a .field) (a .s .now) (a .i) (sym (at-is-sized .is-sized .ensures) ∙ c .before .before .before .if1 .left) (c .before .if2 .left) (c .if3 .left)
 
 pub tall-at-spec : {M : Type 1} → statement M
 tall-at-spec =

@@ -13,7 +13,7 @@ use Rattle.sizing.proofs.pieces.tall_inside.Tie as tie
 returns : tie.Need-returns
 returns c =
     let at-start : tie.Start = search in
-    let a = at-start .args in tall-none (a .s .now) (a .opener) (a .closer) (c .before .before .find-closer .ensures) (c .enum-told .given .1)
+    let a = at-start .args in tall-none (a .field) (a .s .now) (a .opener) (a .closer) (c .before .before .find-closer .ensures) (c .enum-told .given .1)
 
 part-is-tall-end : tie.Need-part-is-tall-end
 part-is-tall-end c = let w = closes-within (c .before .before .before .find-closer .ensures) (c .before .k .given .1) in omega arith
@@ -25,8 +25,8 @@ returns-2 c =
     let at-start : tie.Start = search in
     let a = at-start .args in
     let k = at-k .k .given .0 .0 in
-    tall-high (a .s .now) (a .opener) (a .closer) (at-find-closer .find-closer .ensures) (at-k .k .given .1)
-    (ap (λ j. tall (take j (a .s .now))) (sym (sub-zero k)) ∙ sym (c .before .is-tall .ensures) ∙ c .if1 .taken)
+    tall-high (a .field) (a .s .now) (a .opener) (a .closer) (at-find-closer .find-closer .ensures) (at-k .k .given .1)
+    (ap (λ j. tall (a .field) (take j (a .s .now))) (sym (sub-zero k)) ∙ sym (c .before .is-tall .ensures) ∙ c .if1 .taken)
 
 returns-3 : tie.Need-returns-3
 returns-3 c =
@@ -35,8 +35,8 @@ returns-3 c =
     let at-start : tie.Start = search in
     let a = at-start .args in
     let k = at-k .k .given .0 .0 in
-    tall-low (a .s .now) (a .opener) (a .closer) (at-find-closer .find-closer .ensures) (at-k .k .given .1)
-    (ap (λ j. tall (take j (a .s .now))) (sym (sub-zero k)) ∙ sym (c .before .is-tall .ensures) ∙ c .if1 .left)
+    tall-low (a .field) (a .s .now) (a .opener) (a .closer) (at-find-closer .find-closer .ensures) (at-k .k .given .1)
+    (ap (λ j. tall (a .field) (take j (a .s .now))) (sym (sub-zero k)) ∙ sym (c .before .is-tall .ensures) ∙ c .if1 .left)
 
 pub tall-inside-spec : {M : Type 1} → statement M
 tall-inside-spec =
