@@ -2,7 +2,7 @@
 
 use super::judge::{Answer, Case};
 
-const MAGIC: &[u8] = b"jistranu cases 1\n";
+const MAGIC: &[u8] = b"jistranu cases 2\n";
 
 #[derive(Clone, Debug, PartialEq)]
 pub struct Recorded {
@@ -17,6 +17,7 @@ pub fn to_bytes(recorded: &[Recorded]) -> Vec<u8> {
     for Recorded { family, case, answer } in recorded {
         bytes.push(*family);
         bytes.push(u8::from(case.display));
+        bytes.push(u8::try_from(case.field).unwrap());
         bytes.extend(u32::try_from(case.work).unwrap().to_be_bytes());
         bytes.extend(u16::try_from(case.output).unwrap().to_be_bytes());
         bytes.extend(u16::try_from(case.formula.len()).unwrap().to_be_bytes());
@@ -37,6 +38,7 @@ pub fn from_bytes(bytes: &[u8]) -> Option<Vec<Recorded>> {
     for _ in 0..count {
         let family = number(&mut rest, 1)? as u8;
         let display = number(&mut rest, 1)? == 1;
+        let field = number(&mut rest, 1)? as u32;
         let work = number(&mut rest, 4)?;
         let output = number(&mut rest, 2)?;
         let formula_length = number(&mut rest, 2)?;
@@ -47,7 +49,7 @@ pub fn from_bytes(bytes: &[u8]) -> Option<Vec<Recorded>> {
         let table = take(&mut rest, table_length)?.to_vec();
         let latex = take(&mut rest, count)?.to_vec();
         let answer = if refusal == 0 { Answer::Done(latex) } else { Answer::Refused(refusal) };
-        recorded.push(Recorded { family, case: Case { formula, table, display, work, output }, answer });
+        recorded.push(Recorded { family, case: Case { formula, table, display, field, work, output }, answer });
     }
     rest.is_empty().then_some(recorded)
 }
@@ -80,10 +82,10 @@ pub fn unhex(word: &str) -> Option<Vec<u8>> {
     (0..word.len()).step_by(2).map(|i| u8::from_str_radix(&word[i..i + 2], 16).ok()).collect()
 }
 
-/// A line of `answer`'s input: display, work length, output length, formula in hex, table in hex.
+/// A line of `answer`'s input: display, field, work length, output length, formula in hex, table in hex.
 pub fn from_line(line: &str) -> Option<Case> {
     let words: Vec<&str> = line.split_whitespace().collect();
-    let [display, work, output, formula, table] = words[..] else {
+    let [display, field, work, output, formula, table] = words[..] else {
         return None;
     };
     Some(Case {
@@ -92,6 +94,7 @@ pub fn from_line(line: &str) -> Option<Case> {
             "1" => true,
             _ => return None,
         },
+        field: field.parse().ok()?,
         work: work.parse().ok()?,
         output: output.parse().ok()?,
         formula: unhex(formula)?,

@@ -1,13 +1,14 @@
 //! The library against the judge, call by call: the answer, the count, the bytes, and what both buffers hold afterwards. What is
 //! accepted goes through `typst_to_latex` as a whole too: that of the test copy, and the unchanged one where it has one order only,
-//! loses no block, no search of a call passes over a parenthesis, and no round leaves a slash.
+//! loses no block, no search of a call passes over a parenthesis, no round leaves a slash, and no delimiters stay small that it sizes.
 
 use super::cases::{hex, Recorded};
 use super::definitions::one_order;
-use super::judge::{judge, refused_before_stages, typst_to_latex, Answer, Case, Stages, STAGE_SYMBOLS};
+use super::judge::{judge, refused_before_stages, typst_to_latex, Answer, Case, Stages, NUMBERS, STAGE_SYMBOLS};
 use super::rng::Rng;
 use super::table::Record;
-use super::{generate, workers};
+use super::sizing::ALL_TALL;
+use super::{generate, tall, workers};
 use std::collections::HashMap;
 use std::sync::OnceLock;
 
@@ -72,6 +73,7 @@ fn called(case: &Case, salt: usize) -> Result<Answer, String> {
             table.as_ptr(),
             table.len(),
             case.display,
+            case.field,
             work.as_mut_ptr(),
             work.len(),
             output.as_mut_ptr(),
@@ -79,7 +81,8 @@ fn called(case: &Case, salt: usize) -> Result<Answer, String> {
             &mut count,
         )
     };
-    if number > 10 || number != 0 && count != 0 || count > case.output {
+    let known = NUMBERS.iter().any(|&own| u64::from(own) == number);
+    if !known || number != 0 && count != 0 || count > case.output {
         return Err(format!("number {number} with count {count}"));
     }
     if formula != case.formula || table != case.table {
@@ -104,15 +107,15 @@ fn called(case: &Case, salt: usize) -> Result<Answer, String> {
 }
 
 /// `typst_to_latex` as a whole: the test copy's, and the unchanged one where the table leaves it one order only, it loses no block,
-/// no search of a call passes over a parenthesis, and no round leaves a slash.
+/// no search of a call passes over a parenthesis, no round leaves a slash, and no delimiters stay small that it sizes.
 fn whole(case: &Case) -> (Vec<u8>, Option<Vec<u8>>) {
     let records = refused_before_stages(case).expect("an accepted case");
     let formula = std::str::from_utf8(&case.formula).expect("only own bytes");
     let mut stages = Stages::new(STAGE_SYMBOLS);
-    typst_to_latex(formula, &records, case.display, &mut stages).expect("an accepted case");
+    typst_to_latex(formula, &records, case.display, case.field, &mut stages).expect("an accepted case");
     let unchanged = one_order(&records) && stages.as_the_base();
     let map: HashMap<String, String> = records.into_iter().map(|Record { name, latex }| (name, latex)).collect();
-    let copy = crate::changed::typst_to_latex(formula, &map, case.display).into_bytes();
+    let copy = tall::under(case.field, || crate::changed::typst_to_latex(formula, &map, case.display)).into_bytes();
     (copy, unchanged.then(|| crate::typst_to_latex(formula, &map, case.display).into_bytes()))
 }
 
@@ -126,8 +129,9 @@ struct Difference {
 
 #[derive(Default)]
 struct Findings {
-    by_number: [u64; 11],
+    by_number: [u64; NUMBERS.len()],
     by_family: [u64; generate::FAMILIES.len()],
+    other_field: u64,
     copy: u64,
     unchanged: u64,
     differences: Vec<Difference>,
@@ -135,8 +139,10 @@ struct Findings {
 
 impl Findings {
     fn check(&mut self, index: u64, Recorded { family, case, answer }: Recorded) {
-        self.by_number[usize::from(answer.number())] += 1;
+        let row = NUMBERS.iter().position(|&number| number == answer.number()).expect("a number of an answer");
+        self.by_number[row] += 1;
         self.by_family[usize::from(family)] += 1;
+        self.other_field += u64::from(case.field != ALL_TALL);
         let library = called(&case, index as usize);
         let mut same = library.as_ref() == Ok(&answer);
         if same && answer.number() == 0 {
@@ -154,6 +160,7 @@ impl Findings {
         let add = |sums: &mut [u64], more: &[u64]| sums.iter_mut().zip(more).for_each(|(sum, n)| *sum += n);
         add(&mut self.by_number, &other.by_number);
         add(&mut self.by_family, &other.by_family);
+        self.other_field += other.other_field;
         self.copy += other.copy;
         self.unchanged += other.unchanged;
         self.differences.extend(other.differences);
@@ -183,13 +190,14 @@ pub fn compare(seed: u64, n: u64, recorded: &[Recorded]) -> bool {
 
 fn print(seed: u64, n: u64, recorded: usize, findings: &Findings) {
     println!("{recorded} recorded cases and {n} generated ones, seed {seed}: {} differences", findings.differences.len());
+    println!("{} of them under another tall field than {ALL_TALL}", findings.other_field);
     println!(
         "{} of them by the test copy's typst_to_latex as a whole too, {} by the unchanged one\n",
         findings.copy, findings.unchanged
     );
     println!("| answer | cases |\n|---|---|");
-    for (number, cases) in findings.by_number.iter().enumerate() {
-        println!("| {} | {cases} |", if number == 0 { "done".to_string() } else { format!("refused {number}") });
+    for (number, cases) in NUMBERS.iter().zip(findings.by_number) {
+        println!("| {} | {cases} |", if *number == 0 { "done".to_string() } else { format!("refused {number}") });
     }
     println!("\n| family | cases |\n|---|---|");
     for ((_, family, _), cases) in generate::FAMILIES.iter().zip(findings.by_family) {
@@ -207,7 +215,7 @@ fn print(seed: u64, n: u64, recorded: usize, findings: &Findings) {
 fn show(title: &str, Difference { index, family, case, judge, library }: &Difference) {
     let family = generate::FAMILIES[usize::from(*family)].1;
     println!("\n{title}: case {index}, family {family}");
-    println!("display {}, work {} bytes, output {} bytes", case.display, case.work, case.output);
+    println!("display {}, field {}, work {} bytes, output {} bytes", case.display, case.field, case.work, case.output);
     println!("formula {:?}", String::from_utf8_lossy(&case.formula));
     println!("formula in hexadecimal {}", hex(&case.formula));
     println!("table   {}", hex(&case.table));

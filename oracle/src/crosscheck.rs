@@ -3,9 +3,10 @@
 use super::definitions::{one_order, DEFINITIONS_MARK};
 use super::fractions::ROUNDS;
 use super::judge::{self, refused_before_stages, typst_to_latex, Case, LostBlock, Stages, Trouble};
+use super::sizing::{size_delimiters_to_content, tall_commands};
 use super::table::{self, Form};
 use super::words::WORDS_MARK;
-use super::{chains, grammar, passing};
+use super::{chains, grammar, passing, tall};
 use std::collections::{BTreeMap, HashMap};
 use std::panic::{catch_unwind, AssertUnwindSafe};
 
@@ -38,8 +39,9 @@ impl Findings {
     fn disagree(&mut self, what: &str, case: &Case) {
         self.count(&format!("DISAGREE {what}"));
         self.disagreements.push(format!(
-            "{what}: display {} formula {:?} table {:?}",
+            "{what}: display {} field {} formula {:?} table {:?}",
             case.display,
+            case.field,
             String::from_utf8_lossy(&case.formula),
             String::from_utf8_lossy(&case.table)
         ));
@@ -68,14 +70,22 @@ pub fn unless_panic<T>(f: impl FnOnce() -> T) -> Option<T> {
 pub const FOLLOWED: usize = 60_000;
 
 /// What the Rust is asked with: its definitions, whether the unchanged Rust has one order of them only, and what the stages noted. The
-/// test copy is always asked, the unchanged Rust where it has one order, loses no block, no search of a call passes over a parenthesis
-/// and no round leaves a slash.
+/// test copy is always asked, the unchanged Rust where it has one order, loses no block, no search of a call passes over a parenthesis,
+/// no round leaves a slash and no delimiters stay small that it sizes.
 struct Asked<'a> {
     case: &'a Case,
     formula: &'a str,
     map: HashMap<String, String>,
     one_order: bool,
     stages: Stages,
+}
+
+impl Asked<'_> {
+    /// What the test copy gives for the case, or None where it panics.
+    fn copy(&self) -> Option<String> {
+        let Asked { case, formula, map, .. } = self;
+        unless_panic(|| tall::under(case.field, || crate::changed::typst_to_latex(formula, map, case.display)))
+    }
 }
 
 pub fn check(case: &Case, findings: &mut Findings) {
@@ -88,7 +98,7 @@ pub fn check(case: &Case, findings: &mut Findings) {
     let map = records.iter().map(|r| (r.name.clone(), r.latex.clone())).collect();
     let run = |limit: usize| {
         let mut stages = Stages::new(limit);
-        let converted = typst_to_latex(formula, &records, case.display, &mut stages);
+        let converted = typst_to_latex(formula, &records, case.display, case.field, &mut stages);
         (converted, stages)
     };
     let (mut converted, mut stages) = run(judge::STAGE_SYMBOLS);
@@ -109,6 +119,7 @@ pub fn check(case: &Case, findings: &mut Findings) {
     call_stages(&asked, findings);
     lost_block(&asked, findings);
     rounds(&asked, findings);
+    sizing(&asked, findings);
     match converted {
         Ok(latex) if overgrown => same_text("overgrown, followed to its end", &asked, &latex, findings),
         Ok(latex) => {
@@ -132,7 +143,7 @@ pub fn check(case: &Case, findings: &mut Findings) {
 /// A plain formula prints the LaTeX of its tree, unless more than 64 fractions stand one within another or it has more than 8,192 bytes.
 fn plain_formula(case: &Case, formula: &str, latex: Option<&String>, findings: &mut Findings) {
     let Some(tree) = grammar::parse(formula) else { return };
-    let written = tree.latex();
+    let written = tree.latex(tall_commands(case.field).contains(&"\\frac"));
     let accepted = tree.nested_fractions() <= ROUNDS && written.len() <= judge::STAGE_SYMBOLS;
     if latex != accepted.then_some(&written) {
         findings.disagree("plain: not as its tree", case);
@@ -172,9 +183,8 @@ fn both_forms(case: &Case, findings: &mut Findings) {
 
 fn same_text(what: &str, asked: &Asked, latex: &str, findings: &mut Findings) {
     let Asked { case, formula, map, one_order, stages } = asked;
-    let copy = unless_panic(|| crate::changed::typst_to_latex(formula, map, case.display));
     let same = |rust: &Option<String>| rust.as_deref() == Some(latex);
-    match copy {
+    match asked.copy() {
         None => findings.disagree(&format!("{what}: the test copy panics"), case),
         copy if same(&copy) => findings.count(&format!("{what}: the test copy's bytes")),
         Some(_) => findings.disagree(&format!("{what}: other bytes than the test copy's"), case),
@@ -189,13 +199,11 @@ fn same_text(what: &str, asked: &Asked, latex: &str, findings: &mut Findings) {
 }
 
 fn check_trouble(trouble: &Trouble, asked: &Asked, findings: &mut Findings) {
-    let Asked { case, formula, map, .. } = asked;
+    let case = asked.case;
     match trouble.number {
         7 => unsettled(trouble, case, findings),
         8 => {
-            let panics = unless_panic(|| crate::convert_lr(&trouble.text)).is_none()
-                && unless_panic(|| crate::changed::typst_to_latex(formula, map, case.display)).is_none();
-            if panics {
+            if unless_panic(|| crate::convert_lr(&trouble.text)).is_none() && asked.copy().is_none() {
                 findings.count("8: convert_lr panics, and so does the whole");
             } else {
                 findings.disagree("8: no panic", case);
@@ -234,6 +242,24 @@ fn rounds(asked: &Asked, findings: &mut Findings) {
     findings.add("rounds in which a slash is left: the unchanged round's text all the same", found.same_text);
     if asked.stages.left {
         findings.count("a round leaves a slash");
+    }
+}
+
+/// Sizing, from the text that entered it: where no delimiters stay small that the unchanged function sizes, and only there, it gives the
+/// same text.
+fn sizing(asked: &Asked, findings: &mut Findings) {
+    let Some(text) = &asked.stages.before_sizing else { return };
+    let (case, mut left_small) = (asked.case, false);
+    let sized = size_delimiters_to_content(text, &tall_commands(case.field), &mut left_small);
+    let unchanged = sized == crate::size_delimiters_to_content(text);
+    if sized != tall::under(case.field, || crate::changed::size_delimiters_to_content(text)) {
+        findings.disagree("sizing: another text than the test copy's", case);
+    } else if unchanged == left_small {
+        findings.disagree("sizing: the unchanged function's text and delimiters left small, or neither", case);
+    } else if left_small {
+        findings.count("sizing: delimiters stay small that the unchanged function sizes");
+    } else {
+        findings.count("sizing: the unchanged function's text");
     }
 }
 

@@ -22,10 +22,13 @@ mod plain_trial;
 mod record;
 mod rng;
 mod short;
+mod sizing;
 mod smallest;
 mod stages;
 mod table;
 mod tables;
+pub mod tall;
+mod tall_cases;
 mod traps;
 pub mod veil;
 mod word;
@@ -38,15 +41,15 @@ mod words;
 mod workers;
 
 use cases::Recorded;
-use judge::{Answer, Case};
+use judge::Answer;
 use std::io::{BufRead, Write};
 
 const USAGE: &str = "judge show FORMULA [NAME=LATEX ..]   the answer for display on and off
-judge answer < LINES                 a line: display work output formula-hex table-hex (- for no bytes),
+judge answer < LINES                 a line: display field work output formula-hex table-hex (- for no bytes),
                                      answered by: number count output-hex
 judge record SEED [FILE]             writes the recorded cases (default crates/replay/data/cases.bin)
-judge dump [FILE]                    the recorded cases as lines: index family display work output formula-hex
-                                     table-hex number output-hex
+judge dump [FILE]                    the recorded cases as lines: index family display field work output
+                                     formula-hex table-hex number output-hex
 judge check [FILE]                   answers the recorded cases again and compares
 judge generate SEED N                N generated cases as such lines
 judge crosscheck SEED N [FILE]       judges N generated cases and all recorded ones against the unchanged functions
@@ -118,15 +121,8 @@ fn show(formula: &str, definitions: &[&str]) -> bool {
         table.extend(form.record_bytes(name.as_bytes(), latex.as_bytes()));
     }
     for display in [true, false] {
-        let case = Case {
-            formula: formula.as_bytes().to_vec(),
-            table: table.clone(),
-            display,
-            work: judge::WORK_BYTES,
-            output: judge::STAGE_SYMBOLS,
-        };
         print!("display {}: ", if display { "on " } else { "off" });
-        match judge::judge(&case) {
+        match judge::judge(&judge::roomy(formula, &table, display)) {
             Answer::Done(bytes) => println!("ok {} {}", bytes.len(), String::from_utf8_lossy(&bytes)),
             Answer::Refused(number) => println!("refused {number}"),
         }
@@ -159,7 +155,7 @@ fn record(seed: u64, file: &str) -> bool {
         let of_family = recorded.iter().filter(|r| r.family == family);
         println!("{family:2} {name:14} {}", of_family.count());
     }
-    for number in 0..=10 {
+    for number in judge::NUMBERS {
         println!("number {number:2}: {}", recorded.iter().filter(|r| r.answer.number() == number).count());
     }
     true
@@ -181,9 +177,9 @@ fn print_lines(recorded: impl Iterator<Item = Recorded>) -> bool {
     let mut out = std::io::BufWriter::new(std::io::stdout().lock());
     for (index, Recorded { family, case, answer }) in recorded.enumerate() {
         let (formula, table) = (cases::hex(&case.formula), cases::hex(&case.table));
-        let (display, number) = (u8::from(case.display), answer.number());
-        let latex = cases::hex(answer.bytes());
-        let line = format!("{index} {family} {display} {} {} {formula} {table} {number} {latex}", case.work, case.output);
+        let (number, latex) = (answer.number(), cases::hex(answer.bytes()));
+        let (display, field, work, output) = (u8::from(case.display), case.field, case.work, case.output);
+        let line = format!("{index} {family} {display} {field} {work} {output} {formula} {table} {number} {latex}");
         if writeln!(out, "{line}").is_err() {
             return false;
         }

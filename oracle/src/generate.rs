@@ -1,13 +1,15 @@
 //! The families of cases. A case depends on its family, the seed and its index alone.
 
-use super::judge::{judge, Case, FORMULA_BYTES, STAGE_SYMBOLS, WORK_BYTES};
+use super::judge::{judge, roomy, Case, FORMULA_BYTES, STAGE_SYMBOLS, WORK_BYTES};
 use super::rng::Rng;
+use super::sizing::ALL_TALL;
 use super::table::{record_bytes, Form};
-use super::{lengths, pieces, plain, tables, traps};
+use super::{lengths, pieces, plain, tables, tall_cases, traps};
 use super::word_tables::{FUNCTION_MAPPINGS, GREEK_LETTERS, OPERATOR_REPLACEMENTS, WORD_MAPPINGS};
 
-/// Number, name, and how often a generated case is of this family (0: written by hand, see traps.txt; of the last two a part is).
-pub const FAMILIES: [(u8, &str, usize); 31] = [
+/// Number, name, and how often a generated case is of this family (0: written by hand, see traps.txt; of the last three a
+/// part is).
+pub const FAMILIES: [(u8, &str, usize); 32] = [
     (0, "document", 0),
     (1, "readings", 0),
     (2, "order", 0),
@@ -39,13 +41,14 @@ pub const FAMILIES: [(u8, &str, usize); 31] = [
     (28, "quoted", 700),
     (29, "wide", 700),
     (30, "chains", 1_200),
+    (31, "tall", 1_200),
 ];
 
 pub fn family_number(name: &str) -> Option<u8> {
     FAMILIES.iter().find(|family| family.1 == name).map(|family| family.0)
 }
 
-/// A case of any generated family, the frequent ones more often.
+/// A case of any generated family, the frequent ones more often; under a field of any value in half of the cases.
 pub fn any(seed: u64, index: u64) -> (u8, Case) {
     let mut rng = Rng::new(seed, index);
     let all = FAMILIES.iter().map(|family| family.2).sum();
@@ -58,7 +61,19 @@ pub fn any(seed: u64, index: u64) -> (u8, Case) {
         }
         at -= often;
     }
-    (number, of_family(number, &mut rng, 5))
+    let mut case = of_family(number, &mut rng, 5);
+    if rng.once_in(2) {
+        case.field = field(&mut rng);
+    }
+    (number, case)
+}
+
+/// Any of 0 to 31 alike, now and then a greater one, also one that a byte would cut to 0 or 31.
+fn field(rng: &mut Rng) -> u32 {
+    match rng.below(25) {
+        0 => rng.pick(&[32, 33, 47, 63, 64, 128, 255, 256, 256 + ALL_TALL, 1 << 16, u32::MAX - ALL_TALL, u32::MAX]),
+        _ => rng.below(32) as u32,
+    }
 }
 
 /// A case of one family; `depth` bounds how deep expressions nest.
@@ -86,6 +101,7 @@ pub fn of_family(family: u8, rng: &mut Rng, depth: usize) -> Case {
         "growth" => return growth(rng),
         "rounds" => return rounds(rng),
         "chains" => return chains(rng, deep),
+        "tall" => return tall_cases::generated(rng, deep),
         "two refusals" => return two_refusals(rng, Form::Narrow),
         "buffers" => return buffers(rng, deep),
         _ => unreachable!("written by hand"),
@@ -98,7 +114,7 @@ fn usual(rng: &mut Rng, mut formula: Vec<u8>) -> Case {
     formula.truncate(1_500);
     let table = if rng.once_in(12) { tables::good(rng) } else { Vec::new() };
     let output = if rng.once_in(30) { rng.below(40) } else { STAGE_SYMBOLS };
-    Case { formula, table, display: !rng.once_in(4), work: WORK_BYTES, output }
+    Case { formula, table, display: !rng.once_in(4), field: ALL_TALL, work: WORK_BYTES, output }
 }
 
 pub fn entry_names() -> Vec<&'static str> {
@@ -337,8 +353,7 @@ fn two_refusals(rng: &mut Rng, form: Form) -> Case {
 }
 
 pub fn refused_by(rng: &mut Rng, number: usize, form: Form) -> Case {
-    let (formula, table) = (b"x".to_vec(), form.beginning().to_vec());
-    let mut case = Case { formula, table, display: true, work: WORK_BYTES, output: STAGE_SYMBOLS };
+    let mut case = roomy("x", form.beginning(), true);
     merge_refusal(rng, &mut case, number);
     case
 }

@@ -71,12 +71,9 @@ impl Sum {
         self.joined(Factor::text)
     }
 
-    pub fn latex(&self) -> String {
-        self.latex_within(false)
-    }
-
-    fn latex_within(&self, script: bool) -> String {
-        self.joined(|factor| factor.latex(script))
+    /// `sizing`: whether parentheses with a fraction in them are sized. They are where `\frac` counts as tall (A13), outside scripts.
+    pub fn latex(&self, sizing: bool) -> String {
+        self.joined(|factor| factor.latex(sizing))
     }
 
     fn joined(&self, factor: impl Fn(&Factor) -> String) -> String {
@@ -119,18 +116,16 @@ impl Factor {
         }
     }
 
-    fn latex(&self, script: bool) -> String {
+    fn latex(&self, sizing: bool) -> String {
         match self {
             Factor::Scripted(atom, low, high) => {
                 atom_latex(atom) + &marked("_", low, Script::latex) + &marked("^", high, Script::latex)
             }
             Factor::Fraction(numerator, denominator) => {
-                format!("\\frac{{{}}}{{{}}}", numerator.latex(script), denominator.latex(script))
+                format!("\\frac{{{}}}{{{}}}", numerator.latex(sizing), denominator.latex(sizing))
             }
-            Factor::Group(sum) if !script && sum.has_slash() => {
-                format!("\\left({}\\right)", sum.latex_within(script))
-            }
-            Factor::Group(sum) => format!("({})", sum.latex_within(script)),
+            Factor::Group(sum) if sizing && sum.has_slash() => format!("\\left({}\\right)", sum.latex(sizing)),
+            Factor::Group(sum) => format!("({})", sum.latex(sizing)),
         }
     }
 }
@@ -157,10 +152,10 @@ impl Operand {
         }
     }
 
-    fn latex(&self, script: bool) -> String {
+    fn latex(&self, sizing: bool) -> String {
         match self {
             Operand::Atom(atom) => atom_latex(atom),
-            Operand::Enclosed(sum) => sum.latex_within(script),
+            Operand::Enclosed(sum) => sum.latex(sizing),
         }
     }
 }
@@ -190,7 +185,7 @@ impl Script {
     fn latex(&self) -> String {
         match self {
             Script::Symbol(symbol) => symbol.to_string(),
-            Script::Enclosed(sum) => format!("{{{}}}", sum.latex_within(true)),
+            Script::Enclosed(sum) => format!("{{{}}}", sum.latex(false)),
         }
     }
 }

@@ -1,10 +1,11 @@
 //! The judge: the answer of document 01 for one call.
 //!
 //! The stages are the functions of `math_conv.rs` itself (they stand in the crate's root), called one by one with the
-//! length check between them; the call rewritings are those of the test copy (A8). Where a check lies inside a function, the
-//! function's body is transcribed in `definitions.rs`, `words.rs` and `fractions.rs`; those lines, and the order of stages below,
-//! come from `math_conv.rs` (Pragmastat, Copyright (c) 2025 Andrey Akinshin, MIT licence).
+//! length check between them; the call rewritings are those of the test copy (A8). Where a check lies inside a function, or a request
+//! changes it, the function's body is transcribed in `definitions.rs`, `words.rs`, `fractions.rs` and `sizing.rs`; those lines, and the
+//! order of stages below, come from `math_conv.rs` (Pragmastat, Copyright (c) 2025 Andrey Akinshin, MIT licence).
 
+use super::sizing::ALL_TALL;
 use super::table::{self, Record};
 use super::{definitions, veil, words};
 use crate::changed;
@@ -19,8 +20,21 @@ pub struct Case {
     pub formula: Vec<u8>,
     pub table: Vec<u8>,
     pub display: bool,
+    pub field: u32,
     pub work: usize,
     pub output: usize,
+}
+
+/// A case with room enough, sized as the Rust does.
+pub fn roomy(formula: &str, table: &[u8], display: bool) -> Case {
+    Case {
+        formula: formula.as_bytes().to_vec(),
+        table: table.to_vec(),
+        display,
+        field: ALL_TALL,
+        work: WORK_BYTES,
+        output: STAGE_SYMBOLS,
+    }
 }
 
 #[derive(Clone, Debug, PartialEq)]
@@ -28,6 +42,9 @@ pub enum Answer {
     Done(Vec<u8>),
     Refused(u8),
 }
+
+/// All numbers of answers; no case is refused by 6.
+pub const NUMBERS: [u8; 12] = [0, 1, 2, 3, 4, 5, 6, 7, 8, 9, 10, 15];
 
 impl Answer {
     /// 0 for done, else the number of the refusal.
@@ -64,25 +81,37 @@ pub struct LostBlock {
 }
 
 /// The limit on a stage's finished text, the lengths met so far, where the base refused 6, and what the base does not: whether a
-/// closing search passed over a parenthesis, and whether a round left a slash. And the text that entered the rounds.
+/// closing search passed over a parenthesis, whether a round left a slash, and whether sizing left delimiters small that it sizes. And
+/// the texts that entered the rounds and the sizing.
 pub struct Stages {
     limit: usize,
     pub lengths: Vec<(String, usize)>,
     pub lost: Option<LostBlock>,
     pub passed_over: bool,
     pub left: bool,
+    pub left_small: bool,
     pub before_rounds: Option<String>,
+    pub before_sizing: Option<String>,
 }
 
 impl Stages {
     pub fn new(limit: usize) -> Self {
-        Stages { limit, lengths: Vec::new(), lost: None, passed_over: false, left: false, before_rounds: None }
+        Stages {
+            limit,
+            lengths: Vec::new(),
+            lost: None,
+            passed_over: false,
+            left: false,
+            left_small: false,
+            before_rounds: None,
+            before_sizing: None,
+        }
     }
 
     /// Whether the unchanged Rust gives the same text, if its definitions have one order only: it loses no block, no search passed over
-    /// a parenthesis, and no round left a slash.
+    /// a parenthesis, no round left a slash, and no delimiters stayed small that it sizes.
     pub fn as_the_base(&self) -> bool {
-        self.lost.is_none() && !self.passed_over && !self.left
+        self.lost.is_none() && !self.passed_over && !self.left && !self.left_small
     }
 
     /// Only the first loss counts: behind it the unchanged Rust has another text.
@@ -105,10 +134,13 @@ impl Stages {
     }
 }
 
-/// Numbers 4, 2, 1, 3 in this order; the table's records where the call goes on to the stages.
+/// Numbers 4, 15, 2, 1, 3 in this order; the table's records where the call goes on to the stages.
 pub fn refused_before_stages(case: &Case) -> Result<Vec<Record>, u8> {
     if case.work < WORK_BYTES {
         return Err(4);
+    }
+    if case.field > ALL_TALL {
+        return Err(15);
     }
     refused_inputs(&case.formula, &case.table)
 }
@@ -130,7 +162,7 @@ pub fn judge(case: &Case) -> Answer {
         Err(number) => return Answer::Refused(number),
     };
     let formula = std::str::from_utf8(&case.formula).unwrap();
-    match typst_to_latex(formula, &records, case.display, &mut Stages::new(STAGE_SYMBOLS)) {
+    match typst_to_latex(formula, &records, case.display, case.field, &mut Stages::new(STAGE_SYMBOLS)) {
         Err(trouble) => Answer::Refused(trouble.number),
         Ok(latex) if latex.len() > case.output => Answer::Refused(10),
         Ok(latex) => Answer::Done(latex.into_bytes()),
@@ -142,6 +174,7 @@ pub fn typst_to_latex(
     typst_math: &str,
     records: &[Record],
     display: bool,
+    field: u32,
     stages: &mut Stages,
 ) -> Result<String, Trouble> {
     let mut result = typst_math.to_string();
@@ -154,7 +187,7 @@ pub fn typst_to_latex(
     }
     result = stages.finished("quotes", crate::convert_text_quotes(&result))?;
     result = definitions::apply_definitions_outside_text(&result, records, stages)?;
-    result = words::convert_syntax(&result, display, stages)?;
+    result = words::convert_syntax(&result, display, field, stages)?;
     result = stages.finished("alignment", crate::convert_alignment(&result))?;
     result = stages.finished("thin spaces", crate::drop_thin_space_after_commands(&result))?;
     Ok(result)

@@ -1,6 +1,6 @@
 //! Formulas around the limits: 4,096 bytes, 8,192 symbols at a chosen stage, 64 rounds.
 
-use super::judge::{typst_to_latex, Case, Stages, FORMULA_BYTES, STAGE_SYMBOLS, WORK_BYTES};
+use super::judge::{roomy, typst_to_latex, Case, Stages, FORMULA_BYTES};
 use super::pieces::CALLS;
 use super::rng::Rng;
 use super::table::{self, record_bytes};
@@ -130,20 +130,15 @@ fn formula(growth: &Growth, pieces: usize, filler: usize) -> String {
 fn length_at(case: &Case, stage: &str) -> Option<usize> {
     let records = table::read(&case.table)?;
     let mut stages = Stages::new(usize::MAX);
-    let _ = typst_to_latex(std::str::from_utf8(&case.formula).ok()?, &records, case.display, &mut stages);
+    let formula = std::str::from_utf8(&case.formula).ok()?;
+    let _ = typst_to_latex(formula, &records, case.display, case.field, &mut stages);
     stages.lengths.iter().rev().find(|(name, _)| name == stage).map(|(_, length)| *length)
 }
 
 /// A case whose text has `target` symbols when the stage ends, as nearly as the formula's limit allows.
 pub fn growing(growth: &Growth, target: usize, display: bool) -> Case {
     let table = if growth.pumped { pump_table() } else { Vec::new() };
-    let case = |pieces: usize, filler: usize| Case {
-        formula: formula(growth, pieces, filler).into_bytes(),
-        table: table.clone(),
-        display,
-        work: WORK_BYTES,
-        output: STAGE_SYMBOLS,
-    };
+    let case = |pieces: usize, filler: usize| roomy(&formula(growth, pieces, filler), &table, display);
     let length = |pieces: usize, filler: usize| length_at(&case(pieces, filler), growth.stage).unwrap_or(0);
     let (two, four) = (length(2, 0), length(4, 0));
     let slope = (four.saturating_sub(two) / 2).max(1);
@@ -171,13 +166,7 @@ pub const BLOCKS: [&str; 6] = [
 pub fn many_blocks(latex: &str, target: usize) -> Case {
     let width = latex.len() + usize::from(latex.ends_with("mu")) + 1;
     let formula = "ab+".repeat(target / width) + &"+".repeat(target % width);
-    Case {
-        formula: formula.into_bytes(),
-        table: record_bytes(b"ab", latex.as_bytes()),
-        display: true,
-        work: WORK_BYTES,
-        output: STAGE_SYMBOLS,
-    }
+    roomy(&formula, &record_bytes(b"ab", latex.as_bytes()), true)
 }
 
 /// Formulas of up to 4,096 bytes with hundreds of typed blocks, in a row and within each other.

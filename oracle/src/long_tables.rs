@@ -1,6 +1,6 @@
 //! Tables with long names and long LaTeX, around the limits of the wide form, and narrow ones that have 00 in a header.
 
-use super::judge::{Case, FORMULA_BYTES, STAGE_SYMBOLS, WORK_BYTES};
+use super::judge::{roomy, Case, FORMULA_BYTES, STAGE_SYMBOLS};
 use super::table::{Form, TABLE_BYTES};
 use super::{lengths, tables};
 
@@ -10,12 +10,8 @@ pub fn table_in(form: Form, definitions: &[(&str, &str)]) -> Vec<u8> {
     form.beginning().iter().copied().chain(records).collect()
 }
 
-fn case(formula: &str, table: Vec<u8>) -> Case {
-    Case { formula: formula.as_bytes().to_vec(), table, display: true, work: WORK_BYTES, output: STAGE_SYMBOLS }
-}
-
 fn wide(formula: &str, definitions: &[(&str, &str)]) -> Case {
-    case(formula, table_in(Form::Wide, definitions))
+    roomy(formula, &table_in(Form::Wide, definitions), true)
 }
 
 /// LaTeX of this length that no stage changes and that is nowhere the same, so that a byte at a wrong place shows.
@@ -59,14 +55,15 @@ pub fn lengths_in_headers() -> Vec<Case> {
     for form in [Form::Narrow, Form::Wide] {
         for length in [255, 256, 257, 768] {
             let definitions = [("gain", &*counted(length)), ("ab", "x")];
-            cases.push(case("ab/gain", table_in(form, &definitions)));
+            cases.push(roomy("ab/gain", &table_in(form, &definitions), true));
         }
     }
     for length in [1_023, 1_024] {
         cases.push(wide("ab/gain", &[("gain", &*counted(length)), ("ab", "x")]));
     }
     // The narrow form cuts 1,024 to 0: the LaTeX itself is then read as records.
-    cases.push(case("ab/gain", table_in(Form::Narrow, &[("gain", &*counted(1_024)), ("ab", "x")])));
+    let definitions = [("gain", &*counted(1_024)), ("ab", "x")];
+    cases.push(roomy("ab/gain", &table_in(Form::Narrow, &definitions), true));
     cases.push(wide("ab/2", &[("gain", &*counted(4_096)), ("ab", "x")]));
     cases
 }
@@ -108,6 +105,6 @@ fn of_blocks() -> Vec<Case> {
 pub fn greatest() -> Vec<Case> {
     let last = Form::Wide.record_bytes(b"gain", b"\\mathrm{G}");
     [TABLE_BYTES, TABLE_BYTES + 1]
-        .map(|bytes| case("gain/2", [tables::full(bytes - last.len(), Form::Wide), last.clone()].concat()))
+        .map(|bytes| roomy("gain/2", &[tables::full(bytes - last.len(), Form::Wide), last.clone()].concat(), true))
         .to_vec()
 }

@@ -1,10 +1,13 @@
 //! The library's plain check against the parser of `grammar.rs`, on plain and nearly plain texts; and what plain formulas
-//! print: the LaTeX of the parser's tree, and no two alike.
+//! print under a tall field: the LaTeX of the parser's tree, and no two alike.
 
+use super::grammar::{self, Sum};
 use super::judge::{FORMULA_BYTES, STAGE_SYMBOLS, WORK_BYTES};
 use super::rng::Rng;
+use super::sizing::{tall_commands, ALL_TALL};
 use super::word_tables::GREEK_LETTERS;
-use super::{grammar, pieces, plain, workers};
+use super::{pieces, plain, workers};
+use jistranu::Tall;
 use std::collections::HashMap;
 use std::sync::Mutex;
 
@@ -88,45 +91,58 @@ struct Findings {
     differences: Vec<(u64, String)>,
 }
 
-/// Outputs met so far, and the formula of each.
-type Printed = Mutex<HashMap<Vec<u8>, String>>;
+/// Outputs met so far, with whether `\frac` was tall, and the formula of each.
+type Printed = Mutex<HashMap<(bool, Vec<u8>), String>>;
 
 impl Findings {
-    fn check(&mut self, index: u64, formula: String, printed: &Printed) {
-        if let Err(what) = self.differ(&formula, printed) {
-            self.differences.push((index, format!("{what}\nformula {formula:?}")));
+    /// A plain text is printed under the field and under its complement: so once with `\frac` tall and once without.
+    fn check(&mut self, index: u64, formula: String, field: u32, printed: &Printed) {
+        let mut differences = Vec::new();
+        match same_tree(&formula) {
+            Err(what) => differences.push(what),
+            Ok(None) => {}
+            Ok(Some(tree)) => {
+                self.plain += 1;
+                self.atoms += tree.atoms() as u64;
+                // Two tables have no records, and they take turns.
+                let table: &[u8] = if self.plain % 2 == 0 { b"" } else { b"\0" };
+                for field in [field, ALL_TALL - field] {
+                    match print(&tree, &formula, table, field, printed) {
+                        Err(what) => differences.push(format!("{what}\nfield   {field}")),
+                        Ok(accepted) => self.refused += u64::from(!accepted),
+                    }
+                }
+            }
         }
+        self.differences.extend(differences.into_iter().map(|what| (index, format!("{what}\nformula {formula:?}"))));
     }
+}
 
-    fn differ(&mut self, formula: &str, printed: &Printed) -> Result<(), String> {
-        let tree = grammar::parse(formula);
-        let atoms = tree.as_ref().map(grammar::Sum::atoms);
-        let checked = jistranu::plain_check(formula.as_bytes());
-        if checked != atoms {
-            return Err(format!("parser {atoms:?}, plain check {checked:?}"));
+/// The tree of a text, if it is plain. The check must agree with the parser.
+fn same_tree(formula: &str) -> Result<Option<Sum>, String> {
+    let tree = grammar::parse(formula);
+    let atoms = tree.as_ref().map(Sum::atoms);
+    let checked = jistranu::plain_check(formula.as_bytes());
+    if checked == atoms { Ok(tree) } else { Err(format!("parser {atoms:?}, plain check {checked:?}")) }
+}
+
+/// Whether a plain formula is accepted. It must print its tree's LaTeX, as no other does.
+fn print(tree: &Sum, formula: &str, table: &[u8], field: u32, printed: &Printed) -> Result<bool, String> {
+    let (mut work, mut output) = (vec![0; WORK_BYTES], vec![0; STAGE_SYMBOLS]);
+    let frac_counts = tall_commands(field).contains(&"\\frac");
+    let latex = tree.latex(frac_counts);
+    let accepted = tree.nested_fractions() <= NESTED && latex.len() <= STAGE_SYMBOLS;
+    let tall = Tall::try_from(field as u8).expect("a field of at most 31");
+    match jistranu::convert(formula.as_bytes(), table, true, tall, &mut work, &mut output) {
+        Ok(answer) if !accepted || answer != latex.as_bytes() => {
+            Err(format!("tree    {latex:?}\nlibrary {:?}", String::from_utf8_lossy(answer)))
         }
-        let Some(tree) = tree else { return Ok(()) };
-        self.plain += 1;
-        self.atoms += tree.atoms() as u64;
-        let (mut work, mut output) = (vec![0; WORK_BYTES], vec![0; STAGE_SYMBOLS]);
-        let latex = tree.latex();
-        let accepted = tree.nested_fractions() <= NESTED && latex.len() <= STAGE_SYMBOLS;
-        // Two tables have no records, and they take turns.
-        let table: &[u8] = if self.plain % 2 == 0 { b"" } else { b"\0" };
-        match jistranu::convert(formula.as_bytes(), table, true, &mut work, &mut output) {
-            Ok(answer) if !accepted || answer != latex.as_bytes() => {
-                Err(format!("tree    {latex:?}\nlibrary {:?}", String::from_utf8_lossy(answer)))
-            }
-            Ok(answer) => match printed.lock().unwrap().insert(answer.to_vec(), formula.to_string()) {
-                Some(other) if other != formula => Err(format!("prints as another formula does\nother   {other:?}")),
-                _ => Ok(()),
-            },
-            Err(refusal) if accepted => Err(format!("tree    {latex:?}\nlibrary {refusal:?}")),
-            Err(_) => {
-                self.refused += 1;
-                Ok(())
-            }
-        }
+        Ok(answer) => match printed.lock().unwrap().insert((frac_counts, answer.to_vec()), formula.to_string()) {
+            Some(other) if other != formula => Err(format!("prints as another formula does\nother   {other:?}")),
+            _ => Ok(true),
+        },
+        Err(refusal) if accepted => Err(format!("tree    {latex:?}\nlibrary {refusal:?}")),
+        Err(_) => Ok(false),
     }
 }
 
@@ -135,7 +151,9 @@ pub fn trial(seed: u64, n: u64) -> bool {
     let parts = workers::parts(|worker, workers| {
         let mut findings = Findings::default();
         for index in (worker as u64..n).step_by(workers) {
-            findings.check(index, text(&mut Rng::new(seed, index)), &printed);
+            let mut rng = Rng::new(seed, index);
+            let formula = text(&mut rng);
+            findings.check(index, formula, rng.below(32) as u32, &printed);
         }
         findings
     });
@@ -149,8 +167,9 @@ pub fn trial(seed: u64, n: u64) -> bool {
     }
     println!("{n} texts, seed {seed}: {} differences", differences.len());
     println!("{plain} plain with {atoms} atoms, {} not plain", n - plain);
-    println!("{refused} plain ones refused, each with more than {NESTED} fractions within each other or too long an answer");
-    println!("{} different outputs, each of one formula", printed.lock().unwrap().len());
+    println!("{refused} times a plain one refused, each with more than {NESTED} fractions within each other or too long an answer");
+    let outputs = |frac_counts: bool| printed.lock().unwrap().keys().filter(|key| key.0 == frac_counts).count();
+    println!("{} different outputs with \\frac tall and {} without, each of one formula", outputs(true), outputs(false));
     if let Some((index, what)) = differences.iter().min() {
         println!("\nthe first difference: text {index}\n{what}");
     }

@@ -3,10 +3,10 @@
 
 use super::cases::Recorded;
 use super::generate::{self, entry_names, family_number, name_among_neighbours, of_family};
-use super::judge::{judge, Case, STAGE_SYMBOLS, WORK_BYTES};
+use super::judge::{judge, roomy, Case, STAGE_SYMBOLS};
 use super::rng::Rng;
 use super::table::{record_bytes, Form};
-use super::{lengths, long_tables, tables, traps};
+use super::{lengths, long_tables, tables, tall_cases, traps};
 
 /// How many cases of each generated family, and how many bytes their formulas may have.
 const SHARES: [(&str, usize, usize); 18] = [
@@ -46,16 +46,6 @@ impl Recorder {
     }
 }
 
-fn roomy(formula: &str, table: &[u8], display: bool) -> Case {
-    Case {
-        formula: formula.as_bytes().to_vec(),
-        table: table.to_vec(),
-        display,
-        work: WORK_BYTES,
-        output: STAGE_SYMBOLS,
-    }
-}
-
 pub fn record(seed: u64) -> Vec<Recorded> {
     let mut recorder = Recorder { seed, recorded: Vec::new() };
     by_hand(&mut recorder);
@@ -64,6 +54,7 @@ pub fn record(seed: u64) -> Vec<Recorded> {
     faults(&mut recorder);
     limits(&mut recorder);
     refusals(&mut recorder);
+    tall(&mut recorder);
     recorder.recorded
 }
 
@@ -92,20 +83,32 @@ fn entries(recorder: &mut Recorder) {
 
 fn shares(recorder: &mut Recorder) {
     for (family, count, most) in SHARES {
-        let number = family_number(family).expect("a family");
-        let mut added = 0;
-        for index in 0.. {
-            let mut rng = recorder.rng(index + 1_000_000 * usize::from(number));
-            let case = of_family(number, &mut rng, 3);
-            if case.formula.len() <= most && case.table.len() <= 200 {
-                recorder.add(family, case);
-                added += 1;
-            }
-            if added == count {
-                break;
-            }
+        share(recorder, family, count, most);
+    }
+}
+
+fn share(recorder: &mut Recorder, family: &str, count: usize, most: usize) {
+    let number = family_number(family).expect("a family");
+    let mut added = 0;
+    for index in 0.. {
+        let mut rng = recorder.rng(index + 1_000_000 * usize::from(number));
+        let case = of_family(number, &mut rng, 3);
+        if case.formula.len() <= most && case.table.len() <= 200 {
+            recorder.add(family, case);
+            added += 1;
+        }
+        if added == count {
+            break;
         }
     }
+}
+
+/// The tall field. They stand last, so that the cases before A13 keep their indices.
+fn tall(recorder: &mut Recorder) {
+    for case in tall_cases::cases() {
+        recorder.add("tall", case);
+    }
+    share(recorder, "tall", 60, 60);
 }
 
 /// Every fault of number 3 three times; the greatest tables once, those of the wide form with the other long tables.

@@ -5,7 +5,7 @@
 //! as written here. Both are asked of somewhat longer formulas too, which are not on the list: there numerators begin to hold slashes.
 
 use super::grammar::{parse, Factor, Operand, Product, Script, Sum};
-use super::judge::{judge, Answer, Case, STAGE_SYMBOLS, WORK_BYTES};
+use super::judge::{judge, roomy, Answer};
 use std::collections::{BTreeSet, HashMap};
 
 /// In the order of the list.
@@ -24,7 +24,7 @@ pub fn list() -> String {
         let tree = formulas.get(&text);
         assert_eq!(parse(&text).as_ref(), tree, "the parser and the rules agree on {text:?}");
         let Some(tree) = tree else { continue };
-        let latex = tree.latex();
+        let latex = tree.latex(true);
         assert!(printed.insert(latex.clone()), "no other formula prints as {text:?}");
         lines += &format!("{text}\t{}\t{latex}\n", tree.atoms());
     }
@@ -38,8 +38,8 @@ fn ask_all(formulas: &HashMap<String, Sum>) {
     let mut printed = BTreeSet::new();
     for (text, tree) in formulas {
         assert_eq!(parse(text).as_ref(), Some(tree), "the parser and the rules agree on {text:?}");
-        let latex = tree.latex();
-        assert_eq!(judge(&case(text)), Answer::Done(latex.clone().into_bytes()), "what the Rust prints for {text:?}");
+        let latex = tree.latex(true);
+        assert_eq!(judge(&roomy(text, &[], true)), Answer::Done(latex.clone().into_bytes()), "what the Rust prints for {text:?}");
         assert!(printed.insert(latex), "no other formula prints as {text:?}");
     }
 }
@@ -50,11 +50,6 @@ fn all_texts(n: usize) -> Vec<String> {
         0 => vec![String::new()],
         _ => all_texts(n - 1).iter().flat_map(|text| SYMBOLS.chars().map(move |c| format!("{text}{c}"))).collect(),
     }
-}
-
-fn case(formula: &str) -> Case {
-    let formula = formula.as_bytes().to_vec();
-    Case { formula, table: Vec::new(), display: true, work: WORK_BYTES, output: STAGE_SYMBOLS }
 }
 
 /// The trees by their texts of up to so many bytes, of which no two are alike.

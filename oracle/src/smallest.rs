@@ -5,6 +5,7 @@
 use super::fractions::{convert_regular_fractions, ROUNDS};
 use super::judge::{typst_to_latex, Stages, STAGE_SYMBOLS};
 use super::left::Done;
+use super::sizing::ALL_TALL;
 use super::table::is_own_byte;
 
 /// Numbers, the tokens of their texts, and the most bytes that are tried.
@@ -64,7 +65,7 @@ fn each(tokens: &[&str], bytes: usize, text: &mut String, visit: &mut impl FnMut
 fn overgrown() -> String {
     let around = |text: &str, pairs: usize| format!("{}{text}{}", "(".repeat(pairs), ")".repeat(pairs));
     let length = |text: &str| {
-        let converted = typst_to_latex(text, &[], true, &mut Stages::new(usize::MAX));
+        let converted = typst_to_latex(text, &[], true, ALL_TALL, &mut Stages::new(usize::MAX));
         converted.map_or(0, |latex| latex.chars().count())
     };
     let (mut tried, mut best) = (0, (usize::MAX, String::new()));
@@ -125,7 +126,7 @@ fn rounds(text: &str) -> usize {
 /// The number that refuses a text, 0 for none; 6 where the unchanged Rust loses a block, which nothing refuses any more.
 fn number(formula: &str) -> u8 {
     let mut stages = Stages::new(STAGE_SYMBOLS);
-    let converted = typst_to_latex(formula, &[], true, &mut stages);
+    let converted = typst_to_latex(formula, &[], true, ALL_TALL, &mut stages);
     match stages.lost {
         // Where a parenthesis is passed over, the unchanged Rust has another text.
         Some(_) if !stages.passed_over => 6,

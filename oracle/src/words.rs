@@ -5,6 +5,7 @@
 use super::definitions::{base_loses_block, full_length, in_full};
 use super::fractions;
 use super::judge::{Stages, Trouble};
+use super::sizing::{size_delimiters_to_content, tall_commands};
 use super::word_tables::{FUNCTION_MAPPINGS, GREEK_LETTERS, OPERATOR_REPLACEMENTS, WORD_MAPPINGS};
 use std::sync::OnceLock;
 
@@ -36,7 +37,7 @@ fn patterns() -> &'static Patterns {
 
 const GREEK_CAPITALS: [(&str, &str); 2] = [("Phi", "\\Phi"), ("Psi", "\\Psi")];
 
-pub fn convert_syntax(input: &str, display: bool, stages: &mut Stages) -> Result<String, Trouble> {
+pub fn convert_syntax(input: &str, display: bool, field: u32, stages: &mut Stages) -> Result<String, Trouble> {
     let mut result = stages.finished("sqrt", crate::convert_sqrt(input))?;
     for (typst, latex) in FUNCTION_MAPPINGS.into_iter().chain(OPERATOR_REPLACEMENTS) {
         result = stages.finished(typst, result.replace(typst, latex))?;
@@ -59,7 +60,9 @@ pub fn convert_syntax(input: &str, display: bool, stages: &mut Stages) -> Result
     refuse_bare_delimiter(&result)?;
     result = stages.finished("lr", crate::convert_lr(&result))?;
     if display {
-        result = stages.finished("sizing", crate::size_delimiters_to_content(&result))?;
+        stages.before_sizing = Some(result.clone());
+        let sized = size_delimiters_to_content(&result, &tall_commands(field), &mut stages.left_small);
+        result = stages.finished("sizing", sized)?;
     }
     stages.finished("percent", result.replace('%', "\\%"))
 }

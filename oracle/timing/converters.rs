@@ -1,4 +1,4 @@
-//! The three converters on one text, display on and no definitions; and the floor, what any call has to do: clear the work buffer.
+//! The three converters on one text, display on, no definitions and all commands tall; and the floor, what any call has to do: clear the work buffer.
 
 use super::clock::seconds;
 use crate::{as_is, kept};
@@ -68,7 +68,7 @@ fn ends_apart(text: &str) -> bool {
 
 impl Converters {
     fn ours(&mut self, formula: &str) -> Result<&[u8], jistranu::Refusal> {
-        jistranu::convert(formula.as_bytes(), b"", true, &mut self.work, &mut self.output)
+        jistranu::convert(formula.as_bytes(), b"", true, jistranu::Tall::ALL, &mut self.work, &mut self.output)
     }
 
     /// The number of the refusal, or 0.

@@ -14,8 +14,8 @@ int main(void) {
     while (fgets(line, sizeof line, stdin) != NULL) {
         size_t count;
         mark = 1;
-        jistranu_typst_to_latex((const uint8_t *)line, strcspn(line, "\n"), (const uint8_t *)"", 0, true, work, sizeof work, output,
-                                sizeof output, &count);
+        jistranu_typst_to_latex((const uint8_t *)line, strcspn(line, "\n"), (const uint8_t *)"", 0, true, JISTRANU_ALL_TALL, work,
+                                sizeof work, output, sizeof output, &count);
         mark = 2;
     }
     return 0;
