@@ -1,5 +1,5 @@
-/* Converts some correction formulas of a calibration bench, with definitions, and shows what the words of one stand for. Built and
- * run by embed/run-c. */
+/* Converts some correction formulas of a calibration bench, with definitions, one of them with small brackets too, and shows what the
+ * words of one stand for. Built and run by embed/run-c. */
 #include "jistranu.h"
 
 #include <stdio.h>
@@ -32,18 +32,31 @@ static void define(const char *name, const char *latex)
     table_len += name_len + latex_len;
 }
 
-static void convert(const char *formula)
+static void print_latex(const char *formula, uint32_t field)
 {
-    size_t count, atoms;
+    size_t count;
     uint64_t answer = jistranu_typst_to_latex(
-        (const uint8_t *)formula, strlen(formula), table, table_len, true,
+        (const uint8_t *)formula, strlen(formula), table, table_len, true, field,
         work, sizeof work, output, sizeof output, &count);
     if (answer == JISTRANU_DONE)
-        printf("%s\n    %.*s\n", formula, (int)count, (const char *)output);
+        printf("    %.*s\n", (int)count, (const char *)output);
     else
-        printf("%s\n    refused %d\n", formula, (int)answer);
+        printf("    refused %d\n", (int)answer);
+}
+
+static void convert(const char *formula)
+{
+    size_t atoms;
+    printf("%s\n", formula);
+    print_latex(formula, JISTRANU_ALL_TALL);
     if (jistranu_plain_check((const uint8_t *)formula, strlen(formula), &atoms))
         printf("    plain, %zu atoms\n", atoms);
+}
+
+static void convert_under(const char *formula, uint32_t field)
+{
+    printf("%s under %u\n", formula, (unsigned)field);
+    print_latex(formula, field);
 }
 
 static void show_word(const char *formula, size_t place)
@@ -74,6 +87,9 @@ int main(void)
     define("gain", "\\mathrm{G}");
     define("Uref", "U_{\\mathrm{ref}}");
     convert("Uref/gain");
+    convert_under("(U/U_0) [sqrt(R)]", JISTRANU_ALL_TALL);
+    convert_under("(U/U_0) [sqrt(R)]", JISTRANU_TALL_SQRT);
+    convert_under("(U/U_0) [sqrt(R)]", 32);
     show_word("gain/2 + x_gain", 0);
     show_word("gain/2 + x_gain", 4);
     show_word("gain/2 + x_gain", 5);

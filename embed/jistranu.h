@@ -32,9 +32,19 @@ enum {
     JISTRANU_OUTPUT_BYTES = 8192,     /* no answer is longer: with this room, number 10 is never met */
 };
 
+/* The tall field of a conversion: the bits of the commands that enlarge the delimiters around them, added up. */
+enum {
+    JISTRANU_TALL_FRAC = 16, /* \frac */
+    JISTRANU_TALL_SQRT = 8,  /* \sqrt */
+    JISTRANU_TALL_BINOM = 4, /* \binom */
+    JISTRANU_TALL_SUM = 2,   /* \sum */
+    JISTRANU_TALL_INT = 1,   /* \int */
+    JISTRANU_ALL_TALL = 31,  /* all five, as in the Rust module */
+};
+
 /* What a conversion and jistranu_word_at answer: 0, or why there is no LaTeX or no word. Where several reasons hold, a conversion
- * answers 4 first, then 2, 1 and 3, then the first of 5 to 9 that is met on the way, and 10 last; jistranu_word_at answers 2, 1
- * and 3 in this order, and 16 last. No call answers 11 to 15. */
+ * answers 4 first, then 15, 2, 1 and 3, then the first of 5 to 9 that is met on the way, and 10 last; jistranu_word_at answers 2, 1
+ * and 3 in this order, and 16 last. No call answers 11 to 14. */
 enum jistranu_answer {
     JISTRANU_DONE = 0,
     JISTRANU_FOREIGN_BYTE = 1,   /* the formula holds something else than ASCII text, tabs and newlines */
@@ -47,12 +57,15 @@ enum jistranu_answer {
     JISTRANU_BARE_DELIMITER = 8, /* lr encloses a delimiter and nothing else, as in lr(|) */
     JISTRANU_BARRED_SOLIDUS = 9, /* a denominator within bars holds an escaped slash, as in a/abs(b \/ c) */
     JISTRANU_SHORT_OUTPUT = 10,  /* the LaTeX is longer than the output buffer */
+    JISTRANU_TALL_FIELD = 15,    /* the tall field is above 31 */
     JISTRANU_NO_WORD = 16,       /* the place is not on a letter or digit of the formula; only jistranu_word_at answers it */
 };
 
-/* Converts a formula. `display`: whether a/b becomes \frac{a}{b}, as in a formula on a line of its own.
+/* Converts a formula. `display`: whether a/b becomes \frac{a}{b}, as in a formula on a line of its own. `field`: the tall field,
+ * mostly JISTRANU_ALL_TALL. With display on, ( and ) become \left( and \right), and [ and ] likewise, where one of its commands stands
+ * between them; in scripts they stay as they are. What lr and abs enlarge is not ruled by the field.
  *
- * Answers JISTRANU_DONE, and the LaTeX is the first *count bytes of `output` (no 0 byte is added); or a number from 1 to 10 of
+ * Answers JISTRANU_DONE, and the LaTeX is the first *count bytes of `output` (no 0 byte is added); or a number from 1 to 10, or 15, of
  * enum jistranu_answer, and *count is 0. No other byte of `output` is written. All of `work` is zero afterwards, whatever
  * stood there; after JISTRANU_NARROW_WORK it is untouched.
  *
@@ -70,6 +83,7 @@ uint64_t jistranu_typst_to_latex(
     const uint8_t *formula, size_t formula_len,
     const uint8_t *table, size_t table_len,
     bool display,
+    uint32_t field,
     uint8_t *work, size_t work_len,
     uint8_t *output, size_t output_len,
     size_t *count);
@@ -77,7 +91,7 @@ uint64_t jistranu_typst_to_latex(
 /* Whether a formula is plain: sums, products, fractions and scripts of single letters, Greek names and numbers, in the one
  * spelling that the grammar allows. *atoms is then how many of those it has, one-letter scripts not counted; else 0.
  *
- * Two different plain formulas, converted with display on and no definitions, never give the same LaTeX.
+ * Two different plain formulas, converted with display on and no definitions under one tall field, never give the same LaTeX.
  */
 bool jistranu_plain_check(const uint8_t *formula, size_t formula_len, size_t *atoms);
 

@@ -1,6 +1,7 @@
-//! Converts some correction formulas of a calibration bench, with definitions, and shows what the words of one stand for. Built and
-//! run by embed/run-rust.
+//! Converts some correction formulas of a calibration bench, with definitions, one of them with small brackets too, and shows what the
+//! words of one stand for. Built and run by embed/run-rust.
 
+use jistranu::{Refusal, Tall};
 use std::collections::HashMap;
 
 fn main() {
@@ -19,6 +20,9 @@ fn main() {
     ] {
         convert(formula, &definitions);
     }
+    for field in [Tall::ALL.bits(), Tall::SQRT.bits(), 32] {
+        convert_under("(U/U_0) [sqrt(R)]", &definitions, field);
+    }
     let table = jistranu::table(&definitions);
     for place in [0, 4, 5, 11] {
         show_word("gain/2 + x_gain", &table, place);
@@ -26,12 +30,22 @@ fn main() {
 }
 
 fn convert(formula: &str, definitions: &HashMap<String, String>) {
-    match jistranu::typst_to_latex(formula, definitions, true) {
-        Ok(latex) => println!("{formula}\n    {latex}"),
-        Err(refusal) => println!("{formula}\n    refused {}", refusal.number()),
-    }
+    println!("{formula}");
+    print(jistranu::typst_to_latex(formula, definitions, true));
     if let Some(atoms) = jistranu::plain_check(formula.as_bytes()) {
         println!("    plain, {atoms} atoms");
+    }
+}
+
+fn convert_under(formula: &str, definitions: &HashMap<String, String>, field: u8) {
+    println!("{formula} under {field}");
+    print(Tall::try_from(field).and_then(|tall| jistranu::typst_to_latex_sized(formula, definitions, true, tall)));
+}
+
+fn print(answer: Result<String, Refusal>) {
+    match answer {
+        Ok(latex) => println!("    {latex}"),
+        Err(refusal) => println!("    refused {}", refusal.number()),
     }
 }
 

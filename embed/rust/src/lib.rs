@@ -1,12 +1,16 @@
 //! Typst math in, LaTeX out: the proved converter, with the shape of the Rust module that it is a port of.
 //!
 //! `math_conv::typst_to_latex(text, &definitions, display)` becomes
-//! `jistranu::typst_to_latex(text, &definitions, display)?`.
+//! `jistranu::typst_to_latex(text, &definitions, display)?`. Which commands enlarge the delimiters around them can be chosen:
+//! [`typst_to_latex_sized`].
 
 pub mod raw;
 mod refusal;
+mod tall;
 
 pub use refusal::Refusal;
+pub use tall::Tall;
+
 use std::cell::RefCell;
 use std::collections::HashMap;
 use std::ops::RangeInclusive;
@@ -50,15 +54,25 @@ thread_local! {
 ///
 /// Definitions are applied longer names first and, among names of equal length, in the order of their bytes, so equal calls have
 /// equal answers. Definitions that fit no table are [`Refusal::FaultyTable`]: a name has at most 127 bytes, its LaTeX at most
-/// 8,191. Text that is not ASCII is [`Refusal::ForeignByte`]. `NarrowWork` and `ShortOutput` don't occur.
+/// 8,191. Text that is not ASCII is [`Refusal::ForeignByte`]. `NarrowWork`, `ShortOutput` and `TallField` don't occur.
 pub fn typst_to_latex(
     typst_math: &str,
     definitions: &HashMap<String, String>,
     display: bool,
 ) -> Result<String, Refusal> {
+    typst_to_latex_sized(typst_math, definitions, display, Tall::ALL)
+}
+
+/// [`typst_to_latex`] with a choice of the commands that enlarge the delimiters around them. They do so with `display` only.
+pub fn typst_to_latex_sized(
+    typst_math: &str,
+    definitions: &HashMap<String, String>,
+    display: bool,
+    tall: Tall,
+) -> Result<String, Refusal> {
     let table = table(definitions);
     BUFFERS.with_borrow_mut(|Buffers { work, output }| {
-        let latex = convert(typst_math.as_bytes(), &table, display, work, output)?;
+        let latex = convert(typst_math.as_bytes(), &table, display, tall, work, output)?;
         Ok(String::from_utf8(latex.to_vec()).expect("LaTeX is ASCII text"))
     })
 }
@@ -69,6 +83,7 @@ pub fn convert<'a>(
     formula: &[u8],
     table: &[u8],
     display: bool,
+    tall: Tall,
     work: &mut [u8],
     output: &'a mut [u8],
 ) -> Result<&'a [u8], Refusal> {
@@ -81,6 +96,7 @@ pub fn convert<'a>(
             table.as_ptr(),
             table.len(),
             display,
+            tall.bits().into(),
             work.as_mut_ptr(),
             work.len(),
             output.as_mut_ptr(),

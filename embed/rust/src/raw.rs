@@ -11,6 +11,7 @@ extern "C" {
         table: *const u8,
         table_len: usize,
         display: bool,
+        field: u32,
         work: *mut u8,
         work_len: usize,
         output: *mut u8,

@@ -1,4 +1,5 @@
-//! What the wrapper adds to the library: the table made of a map, the refusals, the buffers of a thread, the words as slices.
+//! What the wrapper adds to the library: the table made of a map, the refusals, the buffers of a thread, the words as slices, the tall
+//! commands as a set.
 
 use super::*;
 
@@ -13,7 +14,7 @@ fn faulty(rows: &[(&str, &str)]) -> bool {
 /// The answer with a table in its bytes.
 fn converted(formula: &str, table: &[u8]) -> Result<Vec<u8>, Refusal> {
     let (mut work, mut output) = ([7; WORK_BYTES], [7; OUTPUT_BYTES]);
-    convert(formula.as_bytes(), table, true, &mut work, &mut output).map(<[u8]>::to_vec)
+    convert(formula.as_bytes(), table, true, Tall::ALL, &mut work, &mut output).map(<[u8]>::to_vec)
 }
 
 #[test]
@@ -74,6 +75,62 @@ fn quoted_parentheses_close_no_call() {
 }
 
 #[test]
+fn a_command_is_tall_by_choice() {
+    let none = HashMap::new();
+    let printed = |formula: &str, tall: Tall| typst_to_latex_sized(formula, &none, true, tall).unwrap();
+    for (formula, command, small, sized) in [
+        ("(a/b)", Tall::FRAC, r"(\frac{a}{b})", r"\left(\frac{a}{b}\right)"),
+        ("[sqrt(a)]", Tall::SQRT, r"[\sqrt{a}]", r"\left[\sqrt{a}\right]"),
+        ("(binom(n, k))", Tall::BINOM, r"(\binom{n}{k})", r"\left(\binom{n}{k}\right)"),
+        ("[sum x]", Tall::SUM, r"[\sum x]", r"\left[\sum x\right]"),
+        ("(integral x)", Tall::INT, r"(\int x)", r"\left(\int x\right)"),
+    ] {
+        assert_eq!(printed(formula, Tall::ALL), sized);
+        assert_eq!(printed(formula, command), sized);
+        assert_eq!(printed(formula, Tall::ALL - command), small);
+        assert_eq!(printed(formula, Tall::NONE), small);
+        assert_eq!(typst_to_latex(formula, &none, true).as_deref(), Ok(sized));
+    }
+    assert_eq!(printed("lr((a/b))", Tall::NONE), r"\left(\frac{a}{b}\right)");
+    assert_eq!(typst_to_latex_sized("(a/b)", &none, false, Tall::ALL).as_deref(), Ok("(a/b)"));
+}
+
+/// The number that refuses a formula which is too long, under any field, also one that no `Tall` holds.
+fn number_under(field: u32, work: &mut [u8]) -> u64 {
+    let (formula, mut output, mut count) = ([b'a'; FORMULA_BYTES + 1], [7; 1], 7);
+    // SAFETY: the pointers and lengths are those of slices.
+    let answer = unsafe {
+        raw::jistranu_typst_to_latex(
+            formula.as_ptr(),
+            formula.len(),
+            b"".as_ptr(),
+            0,
+            true,
+            field,
+            work.as_mut_ptr(),
+            work.len(),
+            output.as_mut_ptr(),
+            output.len(),
+            &mut count,
+        )
+    };
+    assert_eq!((output, count), ([7], 0));
+    answer
+}
+
+#[test]
+fn a_field_above_31_is_refused_behind_a_narrow_work_buffer() {
+    for field in [32, 63, 255, 256, 256 + 31, u32::MAX] {
+        let mut work = [7; WORK_BYTES];
+        assert_eq!(number_under(field, &mut work[1..]), 4);
+        assert!(work.iter().all(|&b| b == 7));
+        assert_eq!(number_under(field, &mut work), 15);
+        assert_eq!(work, [0; WORK_BYTES]);
+        assert_eq!(number_under(31, &mut work), 2);
+    }
+}
+
+#[test]
 fn refuses_by_its_number() {
     let none = HashMap::new();
     let refused = |formula: &str| typst_to_latex(formula, &none, true).unwrap_err();
@@ -85,9 +142,9 @@ fn refuses_by_its_number() {
     assert_eq!(refused("lr(|)"), Refusal::BareDelimiter);
     assert_eq!(refused("a/abs(b \\/ c)"), Refusal::BarredSolidus);
     let (mut work, mut output) = ([7; WORK_BYTES], [7; 1]);
-    assert_eq!(convert(b"a", b"", true, &mut work[1..], &mut output), Err(Refusal::NarrowWork));
+    assert_eq!(convert(b"a", b"", true, Tall::ALL, &mut work[1..], &mut output), Err(Refusal::NarrowWork));
     assert!(work.iter().all(|&b| b == 7));
-    assert_eq!(convert(b"ab", b"", true, &mut work, &mut output), Err(Refusal::ShortOutput));
+    assert_eq!(convert(b"ab", b"", true, Tall::ALL, &mut work, &mut output), Err(Refusal::ShortOutput));
     assert_eq!((output, work), ([7], [0; WORK_BYTES]));
 }
 
