@@ -31,10 +31,10 @@ use Rattle.name_entry.specs.declared.bounds.Bounds.the-variants.{Defined}
 use Rattle.name_entry.specs.Bounded.{EntryTextsFit, boundedMatch, defined-matches}
 use Rattle.name_entry.specs.Sized.{sized, FitsWithBlocks, StagedWithin, Remaining, remaining-none, remaining-step}
 use Rattle.table.specs.declared.Record.{Record}
-use Rattle.table.specs.declared.order.Cursor.{Cursor}
-use Rattle.table.specs.declared.order.Cursor.the-variants.{Start, Behind}
 use Rattle.table.specs.Reading.{Lies, Short, definitionAt, length-name, length-latex}
-use Rattle.table.specs.Order.{remaining, remaining-start}
+use Rattle.table_order.specs.declared.Cursor.{Cursor}
+use Rattle.table_order.specs.declared.Cursor.the-variants.{Start, Behind}
+use Rattle.table_order.specs.Order.{remaining, remaining-start}
 use Rattle.held_stages.specs.Outside.{Extra}
 use Rattle.held_stages.specs.Carried.{held-sized}
 

@@ -1,9 +1,9 @@
 // The definitions of the table, applied outside of `\text{..}` blocks. Where none of them matches, every byte stays as it is; a text with
 // blocks that are to be held out is rewritten all the same.
 use name_entry::Bounds;
-use table::Cursor;
 use table::Reading;
 use table::Record;
+use table_order::Cursor;
 use text::Progress;
 ghost use mathlib.Core.Path.{_≡_};
 ghost use mathlib.Core.Bool.{false};
@@ -61,7 +61,7 @@ fn apply_definitions(work: &mut [u8], text: Progress, extra: usize, table: &[u8]
     let mut done = text;
     let mut cursor = Cursor::Start;
     loop {
-        let Reading::Whole(found) = table::next(table, cursor) else {
+        let Reading::Whole(found) = table_order::next(table, cursor) else {
             return done;
         };
         done = apply_definition(work, done, extra, table, found);

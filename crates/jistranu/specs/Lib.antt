@@ -1,2 +1,2 @@
--- What the exported functions' contracts cite.
-pub mod Codes
+-- What the exported functions' proofs cite.
+pub mod Answered

@@ -1,13 +1,10 @@
-// The library that C and Rust link: the entry, the plain check and the word under the pointer, each with numbers for its answer.
-use math_conv::Answer;
-use plain_check::PlainAnswer;
-use word_at::WordPlace;
+// The library that C and Rust link: the entry, the plain check and the word under the pointer, each with its answer in numbers.
 ghost use mathlib.Core.Path.{_≡_};
 ghost use mathlib.Core.Bool.{false};
 ghost use Rattle.spec.specs.Pipeline.{Call};
 ghost use Rattle.spec.specs.WordAt.{wordAt, numberOf, partOf};
 ghost use Rattle.plain_check.specs.Check.{Checked as PlainChecked};
-ghost use Rattle.jistranu.specs.Codes.{resultOf, plainAnswerOf, partCoded};
+ghost use Rattle.answer_codes.specs.Codes.{resultOf, plainAnswerOf, partCoded};
 
 // 0, and in `count` the bytes of LaTeX at the start of `output`; or the number of the refusal, and 0. `field` is as wide as a caller's
 // number, so that no value above 31 is cut to a smaller one.
@@ -25,16 +22,7 @@ pub extern "C" fn jistranu_typst_to_latex(
     ensures { λ r. ⌜ ((r ≡ 0 → ⊥) → now (count .exit) ≡ 0) ⌝ }
 {
     let answer = math_conv::typst_to_latex(formula, table, display, field, work, output);
-    match answer {
-        Answer::Done(n) => {
-            *count = n;
-            0
-        }
-        Answer::Refused(why) => {
-            *count = 0;
-            text::number(why)
-        }
-    }
+    answer_codes::answer_code(answer, count)
 }
 
 // Whether the formula is plain, and in `atoms` how many atoms it has, or 0.
@@ -44,16 +32,7 @@ pub extern "C" fn jistranu_plain_check(formula: &[u8], atoms: &mut usize) -> boo
     ensures { λ r. ⌜ (r ≡ false → now (atoms .exit) ≡ 0) ⌝ }
 {
     let answer = plain_check::plain_check(formula);
-    match answer {
-        PlainAnswer::Yes(n) => {
-            *atoms = n;
-            true
-        }
-        PlainAnswer::No => {
-            *atoms = 0;
-            false
-        }
-    }
+    answer_codes::plain_code(answer, atoms)
 }
 
 // 0, and the part that the word at the place stands for: `defined` if it is a name's LaTeX, from `start` of the table on, and else the word
@@ -70,24 +49,6 @@ pub extern "C" fn jistranu_word_at(
     ensures { λ r. ⌜ r ≡ numberOf (wordAt (now (formula .entry)) (now (table .entry)) place) ⌝ }
     ensures { λ _. ⌜ partCoded (now (defined .exit)) (now (start .exit)) (now (length .exit)) ≡ partOf (wordAt (now (formula .entry)) (now (table .entry)) place) ⌝ }
 {
-    match word_at::find_word(formula, table, place) {
-        WordPlace::InFormula(from, to) => {
-            *defined = false;
-            *start = from;
-            *length = to - from;
-            0
-        }
-        WordPlace::InTable(from, to) => {
-            *defined = true;
-            *start = from;
-            *length = to - from;
-            0
-        }
-        WordPlace::Refused(why) => {
-            *defined = false;
-            *start = 0;
-            *length = 0;
-            text::number(why)
-        }
-    }
+    let found = word_at::find_word(formula, table, place);
+    answer_codes::word_code(found, defined, start, length)
 }

@@ -15,9 +15,9 @@ use lib.Seq.{drop-length}
 use borrow.Author.Tests.{eqb-true, eq-eqb, ne-eqb, lt-ltb, le-ltb, ltb-false}
 use Rattle.spec.specs.Pipeline.{mostFormula}
 use Rattle.spec.specs.Grammar.{Sum, Plain, proper, text, atoms}
-use Rattle.plain_check.specs.declared.Part.{Part}
-use Rattle.plain_check.specs.declared.Read.{Read}
-use Rattle.plain_check.specs.declared.Read.the-variants.{Found, Nothing}
+use Rattle.plain_parts.specs.declared.PlainPart.{PlainPart}
+use Rattle.plain_parts.specs.declared.Read.{Read}
+use Rattle.plain_parts.specs.declared.Read.the-variants.{Found, Nothing}
 use Rattle.plain_check.specs.declared.PlainAnswer.{PlainAnswer}
 use Rattle.plain_check.specs.Readers.{Answers, readSum}
 use Rattle.plain_check.specs.Trees.{sumPart}
@@ -54,14 +54,14 @@ sound : (s : List ℕ) (n : ℕ) → plainCount s ≡ some n → PlainOf s n
 unfolding plainCount
 sound s n = short (ltb mostFormula (length s)) refl
   where
-    whole : (p : Part) (b : Bool) → eqb (p .used) (length s) ≡ b → OfSum s p → length s ≤ mostFormula → cond b (some (p .atoms)) none ≡ some n → PlainOf s n
+    whole : (p : PlainPart) (b : Bool) → eqb (p .used) (length s) ≡ b → OfSum s p → length s ≤ mostFormula → cond b (some (p .atoms)) none ≡ some n → PlainOf s n
     whole p false e a l y = absurd (none≢some y)
     whole p true e a l y =
         let all = eqb-true (p .used) (length s) e in
         let reads = sym (append-nil (text (a .tree))) ∙ ap (λ (x : List ℕ). text (a .tree) ++ x) (sym (rw all (drop-length s))) ∙ a .split in
         record {
           plain = record { sum = a .tree; is-proper = a .is-fine; reads = reads; short = l };
-          count = ap (λ (q : Part). q .atoms) (a .counted) ∙ cc;
+          count = ap (λ (q : PlainPart). q .atoms) (a .counted) ∙ cc;
         }
 
     found : (r : Read) → WhenFound (OfSum s) r → length s ≤ mostFormula → wholly s r ≡ some n → PlainOf s n
@@ -94,7 +94,7 @@ pub counts-nothing : {s : List ℕ} → Answers readSum 4 s Nothing → length s
 unfolding plainCount
 counts-nothing {s} a h = rw (le-ltb mostFormula (length s) h, ← a .exact (fuel s) (omega arith))
 
-module _ {s : List ℕ} {p : Part} (a : Answers readSum 4 s (Found p)) (h : length s ≤ mostFormula) where
+module _ {s : List ℕ} {p : PlainPart} (a : Answers readSum 4 s (Found p)) (h : length s ≤ mostFormula) where
   pub counts-whole : p .used ≡ length s → some (p .atoms) ≡ plainCount s
   unfolding plainCount
   counts-whole e = rw (le-ltb mostFormula (length s) h, ← a .exact (fuel s) (omega arith), eq-eqb (p .used) (length s) e)

@@ -13,8 +13,8 @@ use lib.Dec.{eqb, ltb}
 use lib.ListN.{length}
 use Rattle.spec.specs.Pipeline.{mostFormula}
 use Rattle.spec.specs.Grammar.{Plain, atoms}
-use Rattle.plain_check.specs.declared.Read.{Read}
-use Rattle.plain_check.specs.declared.Read.the-variants.{Found, Nothing}
+use Rattle.plain_parts.specs.declared.Read.{Read}
+use Rattle.plain_parts.specs.declared.Read.the-variants.{Found, Nothing}
 use Rattle.plain_check.specs.declared.PlainAnswer.{PlainAnswer}
 use Rattle.plain_check.specs.declared.PlainAnswer.the-variants.{Yes, No}
 use Rattle.plain_check.specs.Readers.{readSum}

@@ -13,11 +13,11 @@ use Rattle.spec.specs.Symbols.{bytes, alnum}
 use Rattle.spec.specs.Grammar.{Atom, Sum, product, Product, factor, beside, Factor, scripted, fraction, group, Operand, atom, enclosed, Script, bare, symbol, inner, scriptless, proper, properProduct, properFactor, properOperand, properScript, atomText, text, productText, factorText, operandText, scriptText}
 use Rattle.spec.specs.Grammar
 use Rattle.spec.specs.Laws.Booleans.{and-left, and-right}
-use Rattle.plain_check.specs.declared.Part.{Part}
-use Rattle.plain_check.specs.declared.Read.{Read}
-use Rattle.plain_check.specs.declared.Read.the-variants.{Found}
-use Rattle.plain_check.specs.Tokens.{at, signNext, factorNext}
-use Rattle.plain_check.specs.Parts.{leaf}
+use Rattle.plain_parts.specs.declared.PlainPart.{PlainPart}
+use Rattle.plain_parts.specs.declared.Read.{Read}
+use Rattle.plain_parts.specs.declared.Read.the-variants.{Found}
+use Rattle.plain_parts.specs.Parts.{at, leaf}
+use Rattle.plain_check.specs.Tokens.{signNext, factorNext}
 use Rattle.plain_check.specs.Readers.{Answers, readSum, readProduct, readFactor, readOperand, readScript}
 use Rattle.plain_check.specs.Steps.{sums, products, series-done, series-more, Front, factor-fraction, factor-scripted, factor-done, operand-atom, operand-group, scripts-more, script-absent, script-short, script-group}
 use Rattle.plain_check.specs.Atoms.{atom-some, atom-begins-alnum, atom-length}
@@ -73,10 +73,10 @@ pub spread : (a b c d : List ℕ) → (a ++ b ++ c) ++ d ≡ a ++ (b ++ (c ++ d)
 spread a b c d = simp append-assoc
 
 -- an answer under another name of the text and of the part
-renamed : {read : ℕ → List ℕ → Read} {rank : ℕ} {xs ys : List ℕ} {p q : Part} → xs ≡ ys → p ≡ q → Answers read rank ys (Found q) → Answers read rank xs (Found p)
-renamed {read} {rank} e f a = subst₂ (λ (zs : List ℕ) (r : Part). Answers read rank zs (Found r)) (sym e) (sym f) a
+renamed : {read : ℕ → List ℕ → Read} {rank : ℕ} {xs ys : List ℕ} {p q : PlainPart} → xs ≡ ys → p ≡ q → Answers read rank ys (Found q) → Answers read rank xs (Found p)
+renamed {read} {rank} e f a = subst₂ (λ (zs : List ℕ) (r : PlainPart). Answers read rank zs (Found r)) (sym e) (sym f) a
 
-front : {read : ℕ → List ℕ → Read} {rank : ℕ} (xs ys : List ℕ) {p : Part} → p .used ≡ length xs → Answers read rank (xs ++ ys) (Found p) → Front read rank (xs ++ ys) p ys
+front : {read : ℕ → List ℕ → Read} {rank : ℕ} (xs ys : List ℕ) {p : PlainPart} → p .used ≡ length xs → Answers read rank (xs ++ ys) (Found p) → Front read rank (xs ++ ys) p ys
 front xs ys {p} e a = record { answers = a; behind = sym (drop-at xs ys (p .used) (sym e)) }
 
 -- ---- a product begins with no sign

@@ -1,6 +1,5 @@
 -- What the contracts of `plain_check` cite, and the theorems that tie the check to the grammar.
 pub mod Tokens
-pub mod Parts
 pub mod Readers
 pub mod Rooms
 pub mod Steps

@@ -7,10 +7,10 @@ use Prim.Native.Char.{code}
 use lib.Dec.{eqb, ltb}
 use lib.ListN.{length, drop}
 use Rattle.spec.specs.Symbols.{is, alnum}
-use Rattle.plain_check.specs.declared.Read.{Read}
-use Rattle.plain_check.specs.declared.Read.the-variants.{Found, Nothing}
-use Rattle.plain_check.specs.Tokens.{at, signNext, factorNext, atomLength}
-use Rattle.plain_check.specs.Parts.{ReadWithin, either, andThen, leaf, adjoined, divided, scripted, closed, enclosedScript}
+use Rattle.plain_parts.specs.declared.Read.{Read}
+use Rattle.plain_parts.specs.declared.Read.the-variants.{Found, Nothing}
+use Rattle.plain_parts.specs.Parts.{at, ReadWithin, either, andThen, leaf, adjoined, divided, scripted, closed, enclosedScript}
+use Rattle.plain_check.specs.Tokens.{signNext, factorNext, atomLength}
 
 unfoldable mutual
   pub readSum : ℕ → List ℕ → Read

@@ -13,23 +13,23 @@ use native.Mathlib.Nat.{add-assoc}
 use native.Mathlib.Omega.{arith}
 use lib.ListN.{length, drop, length-drop}
 use lib.Seq.{drop-drop}
-use Rattle.plain_check.specs.declared.Part.{Part}
-use Rattle.plain_check.specs.declared.Read.{Read}
-use Rattle.plain_check.specs.declared.Read.the-variants.{Found, Nothing}
-use Rattle.plain_check.specs.Parts.{bytesOf, FitBehind, ReadWithin, join, adjoined, behind}
+use Rattle.plain_parts.specs.declared.PlainPart.{PlainPart}
+use Rattle.plain_parts.specs.declared.Read.{Read}
+use Rattle.plain_parts.specs.declared.Read.the-variants.{Found, Nothing}
+use Rattle.plain_parts.specs.Parts.{bytesOf, FitBehind, ReadWithin, join, adjoined, behind}
 use Rattle.plain_check.specs.Readers.{Answers}
 use Rattle.plain_check.specs.Steps.{Split, fit, adjoined-within, Series, series-nothing, series-done, series-more}
 
-join-assoc : (p q r : Part) (a b : ℕ) → join p a (join q b r) ≡ join (join p a q) b r
+join-assoc : (p q r : PlainPart) (a b : ℕ) → join p a (join q b r) ≡ join (join p a q) b r
 join-assoc p q r a b = simp (and-assoc, add-assoc)
 
-adjoined-assoc : (p q : Part) (a b : ℕ) (r : Read) → adjoined p a (adjoined q b r) ≡ adjoined (join p a q) b r
+adjoined-assoc : (p q : PlainPart) (a b : ℕ) (r : Read) → adjoined p a (adjoined q b r) ≡ adjoined (join p a q) b r
 adjoined-assoc p q a b Nothing = refl
 adjoined-assoc p q a b (Found r) = ap (λ x. Found x) (join-assoc p q r a b)
 
 module _ (σ : Series) where
   -- xs begins with p, some parts of a series: p is all of it where nothing comes next, and what comes next is joined to p
-  pub record Begun (xs : List ℕ) (p : Part) : Type 0 where
+  pub record Begun (xs : List ℕ) (p : PlainPart) : Type 0 where
     pub within : ReadWithin (Found p) xs
     pub done : {ys : List ℕ} → ys ≡ drop (p .used) xs → σ .next ys ≡ false → Answers (σ .read) (suc (σ .rank)) xs (Found p)
     pub more : {ys zs : List ℕ} {r : Read} → ys ≡ drop (p .used) xs → σ .next ys ≡ true → zs ≡ drop (σ .gap) ys → Answers (σ .read) (suc (σ .rank)) zs r → Answers (σ .read) (suc (σ .rank)) xs (adjoined p (σ .gap) r)
@@ -39,7 +39,7 @@ module _ (σ : Series) where
   SoFar xs (Found p) = Begun xs p
 
   -- xs is p, a gap, and zs, where one more part begins
-  pub record SeriesTurn (xs : List ℕ) (p : Part) (zs : List ℕ) : Type 0 where
+  pub record SeriesTurn (xs : List ℕ) (p : PlainPart) (zs : List ℕ) : Type 0 where
     pub begun : Begun xs p
     pub rest : List ℕ
     pub behind : rest ≡ drop (p .used) xs
@@ -49,7 +49,7 @@ module _ (σ : Series) where
   -- the next part begins at zs, which is all of xs where nothing has been read
   pub data Ahead (xs : List ℕ) : Read → List ℕ → Type 0 where
     first : Ahead xs Nothing xs
-    later : {p : Part} {zs : List ℕ} → SeriesTurn xs p zs → Ahead xs (Found p) zs
+    later : {p : PlainPart} {zs : List ℕ} → SeriesTurn xs p zs → Ahead xs (Found p) zs
 
 pub first-part : (σ : Series) {xs : List ℕ} (r : Read) → Answers (σ .part) (σ .rank) xs r → SoFar σ xs r
 first-part σ Nothing a = series-nothing σ a
@@ -60,7 +60,7 @@ first-part σ (Found p) a =
       more = λ d t f next. series-more σ (record { answers = a; behind = d }) t f next;
     }
 
-module _ {σ : Series} {xs : List ℕ} {p : Part} {zs : List ℕ} (turn : SeriesTurn σ xs p zs) where
+module _ {σ : Series} {xs : List ℕ} {p : PlainPart} {zs : List ℕ} (turn : SeriesTurn σ xs p zs) where
   turn-split : Split xs p (σ .gap) zs
   turn-split =
       let w = turn .begun .within in
@@ -94,12 +94,12 @@ module _ {σ : Series} {xs : List ℕ} where
   ahead-more first q a = a
   ahead-more (later turn) q a = turn-more turn q a
 
-  passed : {r : Read} {zs : List ℕ} {p : Part} → Ahead σ xs r zs → (q : Read) → behind r (σ .gap) q ≡ Found p → length xs ≤ p .used + length zs
+  passed : {r : Read} {zs : List ℕ} {p : PlainPart} → Ahead σ xs r zs → (q : Read) → behind r (σ .gap) q ≡ Found p → length xs ≤ p .used + length zs
   passed first q e = omega arith
   passed (later turn) Nothing e = let z : _≡_ {A = ℕ} 0 1 = cc in absurd (omega arith)
   passed (later turn) (Found q) e = omega (arith, turn-split turn, ap bytesOf e)
 
-  ahead-less : {r : Read} {zs us : List ℕ} {p : Part} → Ahead σ xs r zs → (q : Read) → behind r (σ .gap) q ≡ Found p → SeriesTurn σ xs p us → length us < length zs
+  ahead-less : {r : Read} {zs us : List ℕ} {p : PlainPart} → Ahead σ xs r zs → (q : Read) → behind r (σ .gap) q ≡ Found p → SeriesTurn σ xs p us → length us < length zs
   ahead-less ahead q e turn = omega (arith, passed ahead q e, turn-split turn, σ .positive)
 
 -- ---- one more part q has been read at zs and joined to what was read before
@@ -110,7 +110,7 @@ module _ {σ : Series} {xs : List ℕ} {r : Read} {zs : List ℕ} {r′ : Read} 
   pub read-nothing : r′ ≡ Nothing → Answers (σ .read) (suc (σ .rank)) xs Nothing
   read-nothing e = subst (SoFar σ xs) e so-far
 
-  module _ {p : Part} (found : r′ ≡ Found p) {us : List ℕ} (rest : us ≡ drop (p .used) xs) where
+  module _ {p : PlainPart} (found : r′ ≡ Found p) {us : List ℕ} (rest : us ≡ drop (p .used) xs) where
     begun : Begun σ xs p
     begun = subst (SoFar σ xs) found so-far
 

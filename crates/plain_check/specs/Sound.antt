@@ -13,11 +13,11 @@ use borrow.Author.Tests.{eqb-true, ltb-true}
 use Rattle.spec.specs.Symbols.{is, bytes, alnum}
 use Rattle.spec.specs.Grammar.{product, factor, beside, scripted, fraction, group, Operand, atom, enclosed, Script, bare, symbol, inner, proper, properProduct, properFactor, properScript, atomText, text, productText, factorText, operandText, scriptText}
 use Rattle.spec.specs.Laws.Booleans.{and-left, and-right, and-both, or-split}
-use Rattle.plain_check.specs.declared.Part.{Part}
-use Rattle.plain_check.specs.declared.Read.{Read}
-use Rattle.plain_check.specs.declared.Read.the-variants.{Found, Nothing}
-use Rattle.plain_check.specs.Tokens.{at, run, isAtom, atomLength, signNext, factorNext}
-use Rattle.plain_check.specs.Parts.{either, andThen, leaf, join, withScripts, wrap, asScript, indivisible, adjoined, divided, scripted as scriptedRead, closed, enclosedScript}
+use Rattle.plain_parts.specs.declared.PlainPart.{PlainPart}
+use Rattle.plain_parts.specs.declared.Read.{Read}
+use Rattle.plain_parts.specs.declared.Read.the-variants.{Found, Nothing}
+use Rattle.plain_parts.specs.Parts.{at, either, andThen, leaf, join, withScripts, wrap, asScript, indivisible, adjoined, divided, scripted as scriptedRead, closed, enclosedScript}
+use Rattle.plain_check.specs.Tokens.{run, isAtom, atomLength, signNext, factorNext}
 use Rattle.plain_check.specs.Readers.{readSum, readProduct, readFactor, readOperand, readScripts, readScript}
 use Rattle.plain_check.specs.Rooms.{run-room}
 use Rattle.plain_check.specs.Atoms.{spelled, atom-begins-alnum}
@@ -25,25 +25,25 @@ use Rattle.plain_check.specs.Trees.{Sign, plus, minus, signed, signText,
 use Rattle.plain_check.specs.Complete.{spread}
 
 -- a proper tree at the front of xs, of which p is counted
-pub record TreeAt {T : Type 0} (fine : T → Bool) (written : T → List ℕ) (part : T → Part) (xs : List ℕ) (p : Part) : Type 0 where
+pub record TreeAt {T : Type 0} (fine : T → Bool) (written : T → List ℕ) (part : T → PlainPart) (xs : List ℕ) (p : PlainPart) : Type 0 where
   pub tree : T
   pub is-fine : fine tree ≡ true
   pub counted : part tree ≡ p
   pub split : written tree ++ drop (p .used) xs ≡ xs
 
-abbrev pub OfSum : List ℕ → Part → Type 0
+abbrev pub OfSum : List ℕ → PlainPart → Type 0
 OfSum = TreeAt proper text sumPart
 
-abbrev OfProduct : List ℕ → Part → Type 0
+abbrev OfProduct : List ℕ → PlainPart → Type 0
 OfProduct = TreeAt properProduct productText productPart
 
-abbrev OfFactor : List ℕ → Part → Type 0
+abbrev OfFactor : List ℕ → PlainPart → Type 0
 OfFactor = TreeAt properFactor factorText factorPart
 
-abbrev OfOperand : List ℕ → Part → Type 0
+abbrev OfOperand : List ℕ → PlainPart → Type 0
 OfOperand = TreeAt properInside operandText operandPart
 
-abbrev OfScript : ℕ → List ℕ → Part → Type 0
+abbrev OfScript : ℕ → List ℕ → PlainPart → Type 0
 OfScript sign = TreeAt properScript (scriptText (sign ∷ [])) (scriptPart sign)
 
 -- both scripts of an atom
@@ -51,23 +51,23 @@ record Pair : Type 0 where
   low : Script
   high : Script
 
-abbrev OfScripts : List ℕ → Part → Type 0
+abbrev OfScripts : List ℕ → PlainPart → Type 0
 OfScripts =
     TreeAt (λ (t : Pair). properScript (t .low) && properScript (t .high))
     (λ (t : Pair). scriptText (bytes "_") (t .low) ++ scriptText (bytes "^") (t .high))
     (λ (t : Pair). scriptsPart (t .low) (t .high))
 
 -- ---- what was read, if anything was
-abbrev pub WhenFound : (Part → Type 0) → Read → Type 0
+abbrev pub WhenFound : (PlainPart → Type 0) → Read → Type 0
 WhenFound R Nothing = Unit {0}
 WhenFound R (Found p) = R p
 
-module _ (R S : Part → Type 0) where
-  then : (r : Read) (f : Part → Read) → WhenFound R r → ((p : Part) → R p → WhenFound S (f p)) → WhenFound S (andThen r f)
+module _ (R S : PlainPart → Type 0) where
+  then : (r : Read) (f : PlainPart → Read) → WhenFound R r → ((p : PlainPart) → R p → WhenFound S (f p)) → WhenFound S (andThen r f)
   then Nothing f s g = tt
   then (Found p) f s g = g p s
 
-module _ (S : Part → Type 0) (a c : Unit {0} → Read) where
+module _ (S : PlainPart → Type 0) (a c : Unit {0} → Read) where
   choose : (b : Bool) → (b ≡ true → WhenFound S (a tt)) → (b ≡ false → WhenFound S (c tt)) → WhenFound S (either b a c)
   choose true f g = f refl
   choose false f g = g refl
@@ -109,11 +109,11 @@ stretches xs us gs vs m g n a e b = rw (← drop-drop n (m + g) xs, ← drop-dro
 
 -- ---- one step of a reader, from the trees of its callees
 module _ (xs : List ℕ) where
-  product-sound : (p : Part) → OfProduct xs p → OfSum xs p
+  product-sound : (p : PlainPart) → OfProduct xs p → OfSum xs p
   unfolding text
   product-sound p a = record { tree = product (a .tree); is-fine = a .is-fine; counted = product-part (a .tree) ∙ a .counted; split = a .split }
 
-  signed-sound : (p : Part) (r : Read) → OfProduct xs p → signNext (drop (p .used) xs) ≡ true → WhenFound (OfSum (drop 3 (drop (p .used) xs))) r → WhenFound (OfSum xs) (adjoined p 3 r)
+  signed-sound : (p : PlainPart) (r : Read) → OfProduct xs p → signNext (drop (p .used) xs) ≡ true → WhenFound (OfSum (drop 3 (drop (p .used) xs))) r → WhenFound (OfSum xs) (adjoined p 3 r)
   signed-sound p Nothing a t b = tt
   signed-sound p (Found q) a t b =
       let s = sign-at (drop (p .used) xs) t in
@@ -126,11 +126,11 @@ module _ (xs : List ℕ) where
             (stretches xs (productText (a .tree)) (signText (s .sign)) (text (b .tree)) (p .used) 3 (q .used) (a .split) (s .stands) (b .split));
       }
 
-  factor-sound : (p : Part) → OfFactor xs p → OfProduct xs p
+  factor-sound : (p : PlainPart) → OfFactor xs p → OfProduct xs p
   unfolding text
   factor-sound p a = record { tree = factor (a .tree); is-fine = a .is-fine; counted = factor-part (a .tree) ∙ a .counted; split = a .split }
 
-  beside-sound : (p : Part) (r : Read) → OfFactor xs p → factorNext (drop (p .used) xs) ≡ true → WhenFound (OfProduct (drop 1 (drop (p .used) xs))) r → WhenFound (OfProduct xs) (adjoined p 1 r)
+  beside-sound : (p : PlainPart) (r : Read) → OfFactor xs p → factorNext (drop (p .used) xs) ≡ true → WhenFound (OfProduct (drop 1 (drop (p .used) xs))) r → WhenFound (OfProduct xs) (adjoined p 1 r)
   unfolding text
   beside-sound p Nothing a t b = tt
   beside-sound p (Found q) a t b =
@@ -141,7 +141,7 @@ module _ (xs : List ℕ) where
         split = stretches xs (factorText (a .tree)) (bytes " ") (productText (b .tree)) (p .used) 1 (q .used) (a .split) (space-at (drop (p .used) xs) t) (b .split);
       }
 
-  fraction-sound : (p : Part) (r : Read) → OfOperand xs p → at (drop (p .used) xs) 0 ≡ code "/" → WhenFound (OfOperand (drop 1 (drop (p .used) xs))) r → WhenFound (OfFactor xs) (divided p r)
+  fraction-sound : (p : PlainPart) (r : Read) → OfOperand xs p → at (drop (p .used) xs) 0 ≡ code "/" → WhenFound (OfOperand (drop 1 (drop (p .used) xs))) r → WhenFound (OfFactor xs) (divided p r)
   unfolding text
   fraction-sound p Nothing a t b = tt
   fraction-sound p (Found q) a t b = choose (OfFactor xs) (λ _. Nothing) (λ _. Found (join p 1 q)) (indivisible p q) (λ _. tt) λ bar.
@@ -152,7 +152,7 @@ module _ (xs : List ℕ) where
         split = stretches xs (operandText (a .tree)) (bytes "/") (operandText (b .tree)) (p .used) 1 (q .used) (a .split) (first (drop (p .used) xs) (code "/") (omega arith) t) (b .split);
       }
 
-  scripted-sound : (p : Part) (r : Read) → OfOperand xs p → p .lone ≡ true → WhenFound (OfScripts (drop (p .used) xs)) r → WhenFound (OfFactor xs) (scriptedRead p r)
+  scripted-sound : (p : PlainPart) (r : Read) → OfOperand xs p → p .lone ≡ true → WhenFound (OfScripts (drop (p .used) xs)) r → WhenFound (OfFactor xs) (scriptedRead p r)
   unfolding text
   scripted-sound p Nothing a l b = tt
   scripted-sound p (Found q) a l b = by (a .tree) (a .counted) (a .split)
@@ -169,14 +169,14 @@ module _ (xs : List ℕ) where
                 rw (← drop-drop (q .used) (p .used) xs, append-assoc (atomText x) low high, append-assoc (atomText x) (low ++ high) (drop (q .used) (drop (p .used) xs)))
                 (ap (λ (l : List ℕ). atomText x ++ l) (b .split) ∙ s);
           }
-      by (enclosed s) k e = absurd (false≢true (ap (λ (u : Part). u .lone) k ∙ l))
+      by (enclosed s) k e = absurd (false≢true (ap (λ (u : PlainPart). u .lone) k ∙ l))
 
-  group-sound : (p : Part) → OfOperand xs p → p .lone ≡ false → OfFactor xs p
+  group-sound : (p : PlainPart) → OfOperand xs p → p .lone ≡ false → OfFactor xs p
   unfolding text
   group-sound p a l = by (a .tree) (a .is-fine) (a .counted) (a .split)
     where
       by : (t : Operand) → properInside t ≡ true → operandPart t ≡ p → operandText t ++ drop (p .used) xs ≡ xs → OfFactor xs p
-      by (atom x) g k s = absurd (true≢false (ap (λ (u : Part). u .lone) k ∙ l))
+      by (atom x) g k s = absurd (true≢false (ap (λ (u : PlainPart). u .lone) k ∙ l))
       by (enclosed s) g k e = record { tree = group s; is-fine = g; counted = group-part s ∙ k; split = e }
 
   atom-sound : 0 < atomLength xs → OfOperand xs (leaf (atomLength xs) 1 true)
@@ -216,7 +216,7 @@ module _ (xs : List ℕ) where
       })
       (λ _. tt)
 
-  scripts-sound : (p : Part) (r : Read) → OfScript (code "_") xs p → WhenFound (OfScript (code "^") (drop (p .used) xs)) r → WhenFound (OfScripts xs) (adjoined p 0 r)
+  scripts-sound : (p : PlainPart) (r : Read) → OfScript (code "_") xs p → WhenFound (OfScript (code "^") (drop (p .used) xs)) r → WhenFound (OfScripts xs) (adjoined p 0 r)
   scripts-sound p Nothing a b = tt
   scripts-sound p (Found q) a b =
       record {
@@ -249,7 +249,7 @@ module _ (sign : ℕ) (xs : List ℕ) (some : 0 < sign) (stands : at xs 0 ≡ si
       by e (enclosed s) g k f =
           record {
             tree = inner s;
-            is-fine = and-both (ap (λ (u : Part). u .scriptless) k ∙ e) g;
+            is-fine = and-both (ap (λ (u : PlainPart). u .scriptless) k ∙ e) g;
             counted = inner-part sign s ∙ ap asScript k;
             split = rw (behind-one xs (p .used)) (ap (λ (l : List ℕ). sign ∷ l) f ∙ sym (first xs sign some stands));
           }

@@ -11,28 +11,28 @@ use lib.Dec.{eqb, ltb}
 use lib.ListN.{length, drop, length-drop}
 use borrow.Author.Tests.{eqb-true, eq-eqb, ne-eqb, lt-ltb, le-ltb, not-false}
 use Rattle.spec.specs.Symbols.{alnum}
-use Rattle.plain_check.specs.declared.Part.{Part}
-use Rattle.plain_check.specs.declared.Read.{Read}
-use Rattle.plain_check.specs.declared.Read.the-variants.{Found, Nothing}
-use Rattle.plain_check.specs.Tokens.{at, signNext, factorNext, atomLength}
-use Rattle.plain_check.specs.Parts.{JoinFits, ReadWithin, bytesOf, either, andThen, join, indivisible, wrap, asScript, leaf, adjoined, divided, scripted, closed, enclosedScript}
+use Rattle.plain_parts.specs.declared.PlainPart.{PlainPart}
+use Rattle.plain_parts.specs.declared.Read.{Read}
+use Rattle.plain_parts.specs.declared.Read.the-variants.{Found, Nothing}
+use Rattle.plain_parts.specs.Parts.{at, JoinFits, ReadWithin, bytesOf, either, andThen, join, indivisible, wrap, asScript, leaf, adjoined, divided, scripted, closed, enclosedScript}
+use Rattle.plain_check.specs.Tokens.{signNext, factorNext, atomLength}
 use Rattle.plain_check.specs.Readers.{Answers, readSum, readProduct, readFactor, readOperand, readScripts, readScript}
 use Rattle.plain_check.specs.Rooms.{in-text, sign-room, factor-room, byte-room, word-room, atom-room}
 
 -- a reader has found p at the front of xs, and ys is what is left
-pub record Front (read : ℕ → List ℕ → Read) (rank : ℕ) (xs : List ℕ) (p : Part) (ys : List ℕ) : Type 0 where
+pub record Front (read : ℕ → List ℕ → Read) (rank : ℕ) (xs : List ℕ) (p : PlainPart) (ys : List ℕ) : Type 0 where
   pub answers : Answers read rank xs (Found p)
   pub behind : ys ≡ drop (p .used) xs
 
 -- xs is p, a gap, and zs
-pub record Split (xs : List ℕ) (p : Part) (gap : ℕ) (zs : List ℕ) : Type 0 where
+pub record Split (xs : List ℕ) (p : PlainPart) (gap : ℕ) (zs : List ℕ) : Type 0 where
   pub size : p .used + gap + length zs ≡ length xs
   pub atoms : p .atoms ≤ p .used
 
-pub fit : {xs zs : List ℕ} {r : Read} {p : Part} {gap : ℕ} → length xs < 2 ^ 64 → Split xs p gap zs → ReadWithin r zs → JoinFits p gap r
+pub fit : {xs zs : List ℕ} {r : Read} {p : PlainPart} {gap : ℕ} → length xs < 2 ^ 64 → Split xs p gap zs → ReadWithin r zs → JoinFits p gap r
 fit l s v = omega arith
 
-module _ {xs zs : List ℕ} {p : Part} where
+module _ {xs zs : List ℕ} {p : PlainPart} where
   pub adjoined-within : {gap : ℕ} (r : Read) → Split xs p gap zs → ReadWithin r zs → ReadWithin (adjoined p gap r) xs
   adjoined-within Nothing s v = omega arith
   adjoined-within (Found q) s v = omega arith
@@ -57,7 +57,7 @@ answers {read} {rank} {xs} {r} f w = record { exact = go; within = w }
     go zero h = absurd (omega arith)
     go (suc k) h = f k (omega arith)
 
-module _ {read : ℕ → List ℕ → Read} {rank : ℕ} {xs : List ℕ} {p : Part} {ys : List ℕ} (front : Front read rank xs p ys) where
+module _ {read : ℕ → List ℕ → Read} {rank : ℕ} {xs : List ℕ} {p : PlainPart} {ys : List ℕ} (front : Front read rank xs p ys) where
   split : (gap : ℕ) {zs : List ℕ} → gap ≤ length ys → zs ≡ drop gap ys → Split xs p gap zs
   split gap {zs} g f = let w = front .answers .within in
       omega (arith, w, ap length (front .behind) ∙ length-drop (p .used) xs, ap length f ∙ length-drop gap ys)
@@ -95,7 +95,7 @@ module _ (σ : Series) {xs : List ℕ} where
   pub series-nothing : Answers (σ .part) (σ .rank) xs Nothing → Answers (σ .read) (suc (σ .rank)) xs Nothing
   series-nothing a = answers (λ k h. sym (σ .step k xs ∙ rw (← a .exact k (omega arith)))) (omega arith)
 
-  module _ {ys : List ℕ} {p : Part} (front : Front (σ .part) (σ .rank) xs p ys) where
+  module _ {ys : List ℕ} {p : PlainPart} (front : Front (σ .part) (σ .rank) xs p ys) where
     pub series-done : σ .next ys ≡ false → Answers (σ .read) (suc (σ .rank)) xs (Found p)
     series-done t = answers (λ k h. sym (σ .step k xs ∙ rw (← found front k (omega arith), ← front .behind, t))) (front .answers .within)
 
@@ -127,7 +127,7 @@ pub factor-nothing : {xs : List ℕ} → Answers readOperand 1 xs Nothing → An
 unfolding readFactor
 factor-nothing a = answers (λ k h. rw (← a .exact k (omega arith))) (omega arith)
 
-module _ {xs ys : List ℕ} {p : Part} (front : Front readOperand 1 xs p ys) where
+module _ {xs ys : List ℕ} {p : PlainPart} (front : Front readOperand 1 xs p ys) where
   pub fraction-split : {zs : List ℕ} → at ys 0 ≡ code "/" → zs ≡ drop 1 ys → Split xs p 1 zs
   fraction-split t f = split front 1 (byte-room ys (code "/") (omega arith) t) f
 
@@ -205,7 +205,7 @@ pub scripts-nothing : {xs : List ℕ} → Answers (readScript (code "_")) 0 xs N
 unfolding readScripts
 scripts-nothing a = answers (λ k h. rw (← a .exact k (omega arith))) (omega arith)
 
-module _ {xs ys : List ℕ} {p : Part} (front : Front (readScript (code "_")) 0 xs p ys) where
+module _ {xs ys : List ℕ} {p : PlainPart} (front : Front (readScript (code "_")) 0 xs p ys) where
   pub scripts-split : Split xs p 0 ys
   scripts-split = split front 0 (omega arith) refl
 

@@ -3,14 +3,11 @@ use mathlib.Core.Bool.{Bool, not, cond, _&&_, _||_}
 use mathlib.Core.List.{List, [], _∷_}
 use Prim.Native.Nat.{ℕ, suc}
 use lib.Dec.{eqb, ltb}
-use lib.ListN.{length, getD, take}
+use lib.ListN.{length, take}
 use Rattle.spec.specs.Symbols.{is, letter, digit, alnum, all}
 use Rattle.spec.specs.Finish.{oneOf}
 use Rattle.spec.specs.Grammar.{greekNames}
-
--- the symbol at i, and 0 past the end
-abbrev pub at : List ℕ → ℕ → ℕ
-at xs i = getD xs i 0
+use Rattle.plain_parts.specs.Parts.{at}
 
 abbrev pub signNext : List ℕ → Bool
 signNext xs = is " " (at xs 0) && (is "+" (at xs 1) || is "-" (at xs 1)) && is " " (at xs 2)

@@ -11,8 +11,8 @@ use Rattle.spec.specs.Symbols.{bytes, alnum}
 use Rattle.spec.specs.Grammar.{Atom, Sum, product, Product, factor, beside, Factor, scripted, fraction, group, Operand, atom, enclosed, Script, bare, symbol, inner, scriptless, scriptlessProduct, scriptlessFactor, scriptlessOperand, isBare, loneAtom, loneProduct, loneFactor, proper, properProduct, properFactor, properOperand, atomText, text, productText, factorText, operandText, scriptText, atoms, productAtoms, factorAtoms, operandAtoms, scriptAtoms}
 use Rattle.spec.specs.Grammar
 use Rattle.spec.specs.Laws.Booleans.{and-left, and-right, and-both, or-neither}
-use Rattle.plain_check.specs.declared.Part.{Part}
-use Rattle.plain_check.specs.Parts.{leaf, join, withScripts, wrap, asScript, indivisible}
+use Rattle.plain_parts.specs.declared.PlainPart.{PlainPart}
+use Rattle.plain_parts.specs.Parts.{leaf, join, withScripts, wrap, asScript, indivisible}
 
 -- ---- a lone atom in parentheses
 abbrev pub wrappedFactor : Factor → Bool
@@ -38,27 +38,27 @@ loneOperand (atom a) = true
 loneOperand (enclosed s) = false
 
 -- ---- the part of a tree
-abbrev pub sumPart : Sum → Part
+abbrev pub sumPart : Sum → PlainPart
 sumPart t = record { used = length (text t); atoms = atoms t; lone = loneAtom t; wrapped = wrappedAtom t; scriptless = scriptless t }
 
-abbrev pub productPart : Product → Part
+abbrev pub productPart : Product → PlainPart
 productPart t =
     record { used = length (productText t); atoms = productAtoms t; lone = loneProduct t; wrapped = wrappedProduct t; scriptless = scriptlessProduct t }
 
-abbrev pub factorPart : Factor → Part
+abbrev pub factorPart : Factor → PlainPart
 factorPart t =
     record { used = length (factorText t); atoms = factorAtoms t; lone = loneFactor t; wrapped = wrappedFactor t; scriptless = scriptlessFactor t }
 
-abbrev pub operandPart : Operand → Part
+abbrev pub operandPart : Operand → PlainPart
 operandPart t =
     record { used = length (operandText t); atoms = operandAtoms t; lone = loneOperand t; wrapped = wrappedOperand t; scriptless = scriptlessOperand t }
 
 -- with the sign before it
-abbrev pub scriptPart : ℕ → Script → Part
+abbrev pub scriptPart : ℕ → Script → PlainPart
 scriptPart sign t =
     record { used = length (scriptText (sign ∷ []) t); atoms = scriptAtoms t; lone = false; wrapped = false; scriptless = isBare t }
 
-abbrev pub scriptsPart : Script → Script → Part
+abbrev pub scriptsPart : Script → Script → PlainPart
 scriptsPart l h = join (scriptPart (code "_") l) 0 (scriptPart (code "^") h)
 
 -- ---- the two signs
@@ -84,7 +84,7 @@ signed-proper minus p s = refl
 
 -- ---- parts of parts: only the bytes are to be counted
 sized : {m n a : ℕ} {l w s : Bool} → m ≡ n
-    → _≡_ {A = Part} (record { used = m; atoms = a; lone = l; wrapped = w; scriptless = s }) (record { used = n; atoms = a; lone = l; wrapped = w; scriptless = s })
+    → _≡_ {A = PlainPart} (record { used = m; atoms = a; lone = l; wrapped = w; scriptless = s }) (record { used = n; atoms = a; lone = l; wrapped = w; scriptless = s })
 sized e = rw e
 
 pub product-part : (p : Product) → sumPart (product p) ≡ productPart p

@@ -1,27 +1,11 @@
 // The plain check: is a text one sum by document 01's rules, and of how many atoms?
 //
 // A reader for each rule calls those of its parts, each on what is left to read.
-mod joins;
 mod readers;
 mod tokens;
 
+use plain_parts::Read;
 ghost use Rattle.plain_check.specs.Check.{Checked};
-
-// What was read: its bytes and atoms, and what the rules ask of it. It is lone if it is one atom, and wrapped if it is one atom in
-// parentheses.
-struct Part {
-    used: usize,
-    atoms: usize,
-    lone: bool,
-    wrapped: bool,
-    scriptless: bool,
-}
-
-// What a reader answers.
-enum Read {
-    Found(Part),
-    Nothing,
-}
 
 // Plain, with its number of atoms, or not.
 pub enum PlainAnswer {

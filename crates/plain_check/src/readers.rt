@@ -3,9 +3,8 @@
 //
 // Of stack: products and factors are read by loops, so calls nest no deeper than parentheses. A loop calls its reader at one place, so
 // that the two are compiled into one frame. An atom is read at two, so that the table of Greek names is in no frame that nests.
-use super::Read;
-use super::joins;
 use super::tokens;
+use plain_parts::Read;
 ghost use Prim.Native.Nat.{_<_};
 ghost use Rattle.plain_check.specs.Readers.{Answers, readSum, readProduct, readFactor, readOperand, readScripts, readScript};
 
@@ -17,7 +16,7 @@ pub fn sum(s: &[u8]) -> Read
     let mut r = Read::Nothing;
     let mut t = s;
     loop {
-        r = joins::behind(r, 3, product(t));
+        r = plain_parts::behind(r, 3, product(t));
         let Read::Found(p) = r else {
             return Read::Nothing;
         };
@@ -38,7 +37,7 @@ fn product(s: &[u8]) -> Read
     let mut r = Read::Nothing;
     let mut t = s;
     loop {
-        r = joins::behind(r, 1, factor(t));
+        r = plain_parts::behind(r, 1, factor(t));
         let Read::Found(p) = r else {
             return Read::Nothing;
         };
@@ -58,7 +57,7 @@ fn factor(s: &[u8]) -> Read
     let n = tokens::atom(s);
     let t = tokens::rest(s, n);
     if (0 < n) & (text_search::symbol(t, 0) != b'/') {
-        return joins::scripted(n, scripts(t));
+        return plain_parts::scripted(n, scripts(t));
     }
     let Read::Found(p) = operand(s) else {
         return Read::Nothing;
@@ -66,7 +65,7 @@ fn factor(s: &[u8]) -> Read
     let m = p.used;
     let u = tokens::rest(s, m);
     if text_search::symbol(u, 0) == b'/' {
-        return joins::divided(p, operand(tokens::rest(u, 1)));
+        return plain_parts::divided(p, operand(tokens::rest(u, 1)));
     }
     Read::Found(p)
 }
@@ -77,11 +76,11 @@ fn operand(s: &[u8]) -> Read
 {
     let n = tokens::atom(s);
     if 0 < n {
-        return joins::leaf(n, 1, true);
+        return plain_parts::leaf(n, 1, true);
     }
     if text_search::symbol(s, 0) == b'(' {
         let t = tokens::rest(s, 1);
-        return joins::closed(t, sum(t));
+        return plain_parts::closed(t, sum(t));
     }
     Read::Nothing
 }
@@ -94,7 +93,7 @@ fn scripts(s: &[u8]) -> Read
         return Read::Nothing;
     };
     let n = p.used;
-    joins::adjoined(p, 0, script(tokens::rest(s, n), b'^'))
+    plain_parts::adjoined(p, 0, script(tokens::rest(s, n), b'^'))
 }
 
 // A sign and a script: one letter or digit, or a sum in parentheses. Where the sign is missing, nothing is read.
@@ -103,11 +102,11 @@ fn script(s: &[u8], sign: u8) -> Read
     ensures { λ r. ⌜ Answers (readScript sign) 0 (now (s .entry)) r ⌝ }
 {
     if text_search::symbol(s, 0) != sign {
-        return joins::leaf(0, 0, true);
+        return plain_parts::leaf(0, 0, true);
     }
     let t = tokens::rest(s, 1);
     if text_symbols::is_alnum(text_search::symbol(t, 0)) {
-        return joins::leaf(2, 0, false);
+        return plain_parts::leaf(2, 0, false);
     }
-    joins::enclosed_script(operand(t))
+    plain_parts::enclosed_script(operand(t))
 }

@@ -1,2 +1,2 @@
--- What the proofs of several functions use, and those of a crate that reads records too.
+-- What the proofs of a crate that reads records use.
 pub mod Tags

@@ -1,9 +1,6 @@
--- What the contracts of `table` cite.
+-- What the contracts of `table` and of the crates above it cite.
 pub mod Forms
 pub mod Records
 pub mod Reading
 pub mod Listed
-pub mod Named
 pub mod Sound
-pub mod Names
-pub mod Order

@@ -1,10 +1,4 @@
-// The definition table's bytes: reading a record of either form, the record of a name, and the order in which definitions are applied.
-mod names;
-mod order;
-
-pub use names::find_named;
-pub use order::Cursor;
-pub use order::next;
+// The definition table's bytes: reading a record of either form.
 ghost use mathlib.Core.Path.{_≡_};
 ghost use mathlib.Core.Bool.{cond};
 ghost use Prim.Native.Nat.{_≤_, _<_};

@@ -1,9 +1,9 @@
 // Number 3: what makes a table faulty. The records are counted first, so that what follows looks at no more than 64.
 use table::Reading;
 use table::Record;
-use table::find_named;
 use table::first_place;
 use table::record_at;
+use table_names::find_named;
 use text_symbols::Class;
 ghost use mathlib.Core.Path.{_≡_};
 ghost use Rattle.spec.specs.Table.{records, definitions, faultyName, faultyLatex, named, faulty};

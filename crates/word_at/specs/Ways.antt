@@ -24,11 +24,11 @@ use Rattle.text.specs.declared.Refusal.{Refusal}
 use Rattle.text.specs.declared.Refusal.the-variants.{NoWord}
 use Rattle.table.specs.Reading.{firstPlace, stands-lies}
 use Rattle.table.specs.Listed.{listed, listed-records}
-use Rattle.table.specs.Named.{latexPart, FindsNamed}
 use Rattle.table.specs.Sound.{not-refused}
 use Rattle.table.specs.declared.Record.{Record}
 use Rattle.table.specs.declared.Reading.{Reading}
 use Rattle.table.specs.declared.Reading.the-variants.{Whole}
+use Rattle.table_names.specs.Named.{latexPart, FindsNamed}
 use Rattle.entry_ends.specs.Answer.{Checks}
 use Rattle.entry_ends.specs.Ways.{checks-sound}
 use Rattle.entry_ends.specs.declared.admission.Verdict.the-variants.{Passed, Refused as Failed}

@@ -74,7 +74,7 @@ fn stands_for(formula: &[u8], table: &[u8], start: usize, end: usize) -> WordPla
         return WordPlace::InFormula(start, end);
     }
     let from = table::first_place(table);
-    let Reading::Whole(found) = table::find_named(table, from, &formula[start..end]) else {
+    let Reading::Whole(found) = table_names::find_named(table, from, &formula[start..end]) else {
         return WordPlace::InFormula(start, end);
     };
     WordPlace::InTable(found.latex, found.next)

@@ -25,9 +25,9 @@ use Rattle.spec.specs.Laws.Names.{same-eq}
 use Rattle.spec.specs.Laws.Order.{named-same, Distinct}
 use Rattle.table.specs.Reading.{firstPlace, readAt, read-end, length-latex, definitionAt, nameAt}
 use Rattle.table.specs.Listed.{listed, listedBy, listed-at, listed-records, Heads, heads-at}
-use Rattle.table.specs.Named.{named-here, named-behind}
 use Rattle.table.specs.declared.Reading.{Reading}
 use Rattle.table.specs.declared.Reading.the-variants.{Whole, End, Unreadable}
+use Rattle.table_names.specs.Named.{named-here, named-behind}
 use Rattle.stage_laws.specs.SameRecords.{SameRecords, SameLimit, definitions-both, form-limit, wide-limit}
 
 abbrev pub latexFor : List ℕ → List Definition → Option (List ℕ)

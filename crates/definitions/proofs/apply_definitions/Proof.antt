@@ -9,11 +9,11 @@ use Rattle.spec.specs.Table.{Definition, definitions}
 use Rattle.name_entry.specs.Sized.{remaining-ready, remaining-all}
 use Rattle.table.specs.declared.Record.{Record}
 use Rattle.table.specs.declared.Reading.the-variants.{Whole}
-use Rattle.table.specs.declared.order.Cursor.the-variants.{Behind}
 use Rattle.table.specs.Reading.{ReadingLies, stands-lies, stands-short, definitionAt}
-use Rattle.table.specs.Order.{Reached, chosen, remaining, next-remaining, next-done, listed-distinct}
 use Rattle.table.proofs.Tags.{unless-whole}
 use Rattle.table.specs.Sound.{not-refused}
+use Rattle.table_order.specs.declared.Cursor.the-variants.{Behind}
+use Rattle.table_order.specs.Order.{Reached, chosen, remaining, next-remaining, next-done, listed-distinct}
 use Rattle.definitions.specs.Applying.{DefinitionsLeft, left-none, left-more, left-done, left-untouched, next-usable}
 use Rattle.definitions.proofs.apply_definitions.Statement.{statement}
 use Rattle.definitions.proofs.apply_definitions.Tie as tie

@@ -1,6 +1,6 @@
 -- `table_faults::is_named` meets its contract, by what the search ensures. Assumes nothing.
 use Rattle.spec.specs.Symbols.{isSome}
-use Rattle.table.specs.Named.{latexPart, finds-named}
+use Rattle.table_names.specs.Named.{latexPart, finds-named}
 use mathlib.Core.Path.{sym, ap, _∙_}
 use borrow.Author.Needs.{needs}
 use Rattle.table_faults.proofs.is_named.Statement.{statement}

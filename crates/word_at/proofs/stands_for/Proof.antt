@@ -5,8 +5,8 @@ use native.Mathlib.Omega.{arith}
 use borrow.Author.Needs.{needs}
 use Rattle.text_symbols.specs.Parts.{part}
 use Rattle.table.specs.Reading.{firstPlace}
-use Rattle.table.specs.Named.{latexPart, FindsNamed}
 use Rattle.table.proofs.Tags.{unless-whole}
+use Rattle.table_names.specs.Named.{latexPart, FindsNamed}
 use Rattle.word_at.specs.Ways.{itself-short, itself-unnamed, latex-named}
 use Rattle.word_at.proofs.stands_for.Statement.{statement}
 use Rattle.word_at.proofs.stands_for.Tie as tie

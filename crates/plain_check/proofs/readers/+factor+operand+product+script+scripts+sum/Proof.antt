@@ -14,7 +14,7 @@ use lib.Dec.{ltb}
 use borrow.Author.Needs.{needs}
 use borrow.Author.Tests.{ltb-true, eqb-false, not-true}
 use Rattle.spec.specs.Laws.Booleans.{and-left, and-right}
-use Rattle.plain_check.specs.Parts.{leaf}
+use Rattle.plain_parts.specs.Parts.{leaf}
 use Rattle.plain_check.specs.Readers.{readOperand}
 use Rattle.plain_check.specs.Series.{first}
 use Rattle.plain_check.specs.Steps.{Front, fit, factor-nothing, fraction-split, scripted-split, factor-fraction, factor-scripted, factor-group, operand-atom, operand-group, operand-nothing, tail-size}

@@ -20,16 +20,16 @@ use Rattle.plain_check.proofs.readers.sum.Kinds as sum-kinds
 use Rattle.plain_check.proofs.readers.+factor+operand+product+script+scripts+sum.Lts-sum as sum-lts
 use Rattle.plain_check.proofs.tokens.atom.Reads as atom-reads
 use Rattle.text_search.proofs.symbol.Reads as symbol-reads
-use Rattle.plain_check.proofs.joins.behind.Reads as behind-reads
-use Rattle.plain_check.proofs.joins.closed.Reads as closed-reads
+use Rattle.plain_parts.proofs.behind.Reads as behind-reads
+use Rattle.plain_parts.proofs.closed.Reads as closed-reads
 use Rattle.plain_check.proofs.tokens.factor_next.Reads as factor-next-reads
-use Rattle.plain_check.proofs.joins.divided.Reads as divided-reads
+use Rattle.plain_parts.proofs.divided.Reads as divided-reads
 use Rattle.text_symbols.proofs.is_alnum.Reads as is-alnum-reads
-use Rattle.plain_check.proofs.joins.adjoined.Reads as adjoined-reads
-use Rattle.plain_check.proofs.joins.leaf.Reads as leaf-reads
+use Rattle.plain_parts.proofs.adjoined.Reads as adjoined-reads
+use Rattle.plain_parts.proofs.leaf.Reads as leaf-reads
 use Rattle.plain_check.proofs.tokens.rest.Reads as rest-reads
-use Rattle.plain_check.proofs.joins.enclosed_script.Reads as enclosed-script-reads
-use Rattle.plain_check.proofs.joins.scripted.Reads as scripted-reads
+use Rattle.plain_parts.proofs.enclosed_script.Reads as enclosed-script-reads
+use Rattle.plain_parts.proofs.scripted.Reads as scripted-reads
 use Rattle.plain_check.proofs.tokens.sign_next.Reads as sign-next-reads
 
 -- ---- the readers of a text by their rank, which is the number in their contracts: a sum 4, a product 3, a factor 2, an operand and scripts 1

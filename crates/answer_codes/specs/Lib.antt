@@ -1,0 +1,2 @@
+-- What the exported numbers mean.
+pub mod Codes

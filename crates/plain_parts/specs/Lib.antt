@@ -1,0 +1,2 @@
+-- What the contracts of `plain_parts` cite.
+pub mod Parts

@@ -1,0 +1,2 @@
+-- What the contracts of `table_names` cite.
+pub mod Named

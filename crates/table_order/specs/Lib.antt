@@ -1,0 +1,3 @@
+-- What the contracts of `table_order` cite.
+pub mod Names
+pub mod Order
