@@ -16,18 +16,14 @@ use Rattle.spec.specs.Finish.{allTall}
 use Rattle.spec.specs.Pipeline.{mostFormula, leastWork, definitionsOr, checked, admitted, typstToLatex, fitting, converted, answerOf, outputAfter, workAfter, Call}
 use Rattle.spec.specs.Starred.{starred, starred-hold}
 use Rattle.plain_printing.specs.Calls.{NoRecords, none-or}
-use Rattle.entry_ends.specs.Answer.{meaning}
+use Rattle.entry_ends.specs.Answer.{meaning, means-done}
 use Rattle.entry_ends.specs.declared.Answer.{Answer}
-use Rattle.entry_ends.specs.declared.Answer.the-variants.{Done, Refused}
+use Rattle.entry_ends.specs.declared.Answer.the-variants.{Done}
 
 pub record Gives (latex work output : List ℕ) (answer : Answer) (work′ output′ : List ℕ) : Type 0 where
   pub answers : answer ≡ Done (length latex)
   pub clears : work′ ≡ replicate (length work) 0
   pub writes : output′ ≡ latex ++ drop (length latex) output
-
-means-done : {n : ℕ} (answer : Answer) → meaning answer ≡ passed n → answer ≡ Done n
-means-done (Done m) e = cc
-means-done (Refused why) e = cc
 
 -- ---- a call on one formula
 module _ (formula latex : List ℕ) (short : ltb mostFormula (length formula) ≡ false) (native : any foreign formula ≡ false)

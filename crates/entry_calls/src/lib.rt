@@ -1,5 +1,9 @@
-// What is proved of calls of the entry: here demand 3 of document 01, of two calls that are made; in specs/StarredCalls.antt its starred cases.
-// `calls-apart` in crates/plain_printing/specs/Calls.antt states demand 3 of any two calls.
+// What is proved of calls of the entry: here demand 3 of document 01, of two calls that are made; in joins.rt document 02's A10, of three; in
+// specs/StarredCalls.antt document 01's starred cases. `calls-apart` in crates/plain_printing/specs/Calls.antt states demand 3 of any two calls.
+mod joins;
+
+pub use joins::Triple;
+pub use joins::both_and_join;
 use math_conv::Answer;
 use math_conv::typst_to_latex;
 ghost use mathlib.Core.Path.{_≡_};

@@ -21,6 +21,10 @@ abbrev pub meaning : Answer → Result ℕ
 meaning (Done n) = passed n
 meaning (Refused why) = refused (number why)
 
+pub means-done : {n : ℕ} (answer : Answer) → meaning answer ≡ passed n → answer ≡ Done n
+means-done (Done m) e = cc
+means-done (Refused why) e = cc
+
 abbrev pub verdictOf : List ℕ → Verdict → Result (List ℕ)
 verdictOf formula Passed = passed formula
 verdictOf formula (Failed why) = refused (number why)

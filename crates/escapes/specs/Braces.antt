@@ -16,6 +16,7 @@ use Rattle.spec.specs.Symbols.{bytes, is, head, find}
 use Rattle.spec.specs.Closing.{close}
 use Rattle.spec.specs.Finish.{groupsBehind, top, popped, brace, escapeBraces, escapeSetBraces}
 use Rattle.spec.specs.Laws.Symbols.{drop-step, find-nowhere}
+use Rattle.spec.specs.Laws.Braces.{bareBehind, stackBehind, escape-step}
 use Rattle.text_symbols.specs.Parts.{part, length-part}
 use Rattle.text.specs.Writer.{Regions, Appended}
 use Rattle.text.specs.Filling.{Filling, filling-more, filling-source, filling-symbol}
@@ -26,34 +27,25 @@ use Rattle.text_search.specs.declared.Found.the-variants.{At, Nothing}
 
 unfoldable pub stackOf : List ℕ → List Bool
 stackOf [] = []
-stackOf (x ∷ p) = elim (is "{" x) [ true ↦ groupsBehind (head p) ∷ stackOf p | false ↦ elim (is "}" x) [ true ↦ popped (stackOf p) | false ↦ stackOf p ] ]
+stackOf (x ∷ p) = stackBehind (stackOf p) (head p) x
 
 -- the symbol x, with those before it last first
-unfoldable pub bareBehind : List ℕ → ℕ → Bool
-bareBehind p x = elim (is "{" x) [ true ↦ groupsBehind (head p) | false ↦ elim (is "}" x) [ true ↦ top (stackOf p) | false ↦ true ] ]
+unfoldable pub bareAfter : List ℕ → ℕ → Bool
+unfolding stackOf
+bareAfter p x = bareBehind (stackOf p) (head p) x
 
 abbrev pub bareAt : List ℕ → ℕ → Bool
-bareAt s i = bareBehind (before s i) (getD s i 0)
+bareAt s i = bareAfter (before s i) (getD s i 0)
 
 -- what is written from place i on
 unfoldable pub escapedFrom : List ℕ → ℕ → List ℕ
 escapedFrom s i = escapeBraces (stackOf (before s i)) (head (before s i)) (drop i s)
 
--- ---- one symbol
-escape-step : (p : List ℕ) (x : ℕ) (s : List ℕ) → escapeBraces (stackOf p) (head p) (x ∷ s) ≡ brace (bareBehind p x) x ++ escapeBraces (stackOf (x ∷ p)) x s
-unfolding escapeBraces stackOf bareBehind
-escape-step p x s = go (is "{" x) refl (is "}" x) refl
-  where
-    go : (a : Bool) → is "{" x ≡ a → (b : Bool) → is "}" x ≡ b → escapeBraces (stackOf p) (head p) (x ∷ s) ≡ brace (bareBehind p x) x ++ escapeBraces (stackOf (x ∷ p)) x s
-    go true e b f = rw (e, escapeBraces, stackOf, bareBehind)
-    go false e true f = rw (e, f, escapeBraces, stackOf, bareBehind)
-    go false e false f = rw (e, f, escapeBraces, stackOf, bareBehind)
-
 pub escaped-from-step : (s : List ℕ) (i : ℕ) → i < length s → escapedFrom s i ≡ brace (bareAt s i) (getD s i 0) ++ escapedFrom s (i + 1)
-unfolding escapedFrom
+unfolding escapedFrom bareAfter stackOf
 escaped-from-step s i h =
     ap (escapeBraces (stackOf (before s i)) (head (before s i))) (drop-step s i h)
-    ∙ escape-step (before s i) (getD s i 0) (drop (i + 1) s)
+    ∙ escape-step (stackOf (before s i)) (head (before s i)) (getD s i 0) (drop (i + 1) s)
     ∙ ap (λ p. brace (bareAt s i) (getD s i 0) ++ escapeBraces (stackOf p) (head p) (drop (i + 1) s)) (sym (before-next s i h))
 
 pub escaped-from-first : (s : List ℕ) → escapedFrom s 0 ≡ escapeSetBraces s
@@ -81,9 +73,9 @@ top-close (x ∷ p) d = go (eqb x (code "}")) refl (eqb x (code "{")) refl d (to
     go : (a : Bool) → eqb x (code "}") ≡ a → (b : Bool) → eqb x (code "{") ≡ b → (d : ℕ) → ((d : ℕ) → top (drop d (stackOf p)) ≡ isGrouping (close (code "}") (code "{") d p))
         → top (drop d (stackOf (x ∷ p))) ≡ isGrouping (close (code "}") (code "{") d (x ∷ p))
     go true e b f d further = let z = eqb-true x (code "}") e in rw z (ap top (later (stackOf p) d) ∙ further (suc d))
-    go false e true f zero further = rw (e, f, stackOf, close)
-    go false e true f (suc d) further = rw (e, f, stackOf, close) (further d)
-    go false e false f d further = rw (f, e, stackOf, close) (further d)
+    go false e true f zero further = rw (e, f, stackOf, stackBehind, close)
+    go false e true f (suc d) further = rw (e, f, stackOf, stackBehind, close) (further d)
+    go false e false f d further = rw (f, e, stackOf, stackBehind, close) (further d)
 
 module _ (s : List ℕ) {r : Found} (back : ClosesBack s r (close (code "}") (code "{") 0 (reverse s))) where
   pub top-at : {k : ℕ} → r ≡ At k → top (stackOf (reverse s)) ≡ groupsBehind (getD (0 ∷ s) k 0)
@@ -97,16 +89,16 @@ module _ (s : List ℕ) {r : Found} (back : ClosesBack s r (close (code "}") (co
 -- ---- the symbol at a place
 module _ (s : List ℕ) (i : ℕ) (within : i ≤ length s) where
   pub bare-opener : getD s i 0 ≡ code "{" → bareAt s i ≡ groupsBehind (getD (0 ∷ s) i 0)
-  unfolding bareBehind
-  bare-opener e = ap (bareBehind (before s i)) e ∙ ap groupsBehind (head-before s i within)
+  unfolding bareAfter
+  bare-opener e = ap (bareAfter (before s i)) e ∙ ap groupsBehind (head-before s i within)
 
   pub bare-closer : getD s i 0 ≡ code "}" → bareAt s i ≡ top (stackOf (reverse (part 0 (i - 0) s)))
-  unfolding bareBehind
-  bare-closer e = let z : i ≡ i - 0 = omega arith in ap (bareBehind (before s i)) e ∙ ap (λ k. top (stackOf (before s k))) z
+  unfolding bareAfter
+  bare-closer e = let z : i ≡ i - 0 = omega arith in ap (bareAfter (before s i)) e ∙ ap (λ k. top (stackOf (before s k))) z
 
   pub bare-other : (getD s i 0 ≡ code "{" → ⊥) → (getD s i 0 ≡ code "}" → ⊥) → bareAt s i ≡ true
-  unfolding bareBehind
-  bare-other e f = rw (ne-eqb (getD s i 0) (code "{") e, ne-eqb (getD s i 0) (code "}") f, bareBehind)
+  unfolding bareAfter
+  bare-other e f = rw (bareAfter, bareBehind, ne-eqb (getD s i 0) (code "{") e, ne-eqb (getD s i 0) (code "}") f)
 
 -- ---- without an opening brace nothing is escaped
 escape-none : (before : ℕ) (s : List ℕ) → find (bytes "{") s ≡ none → escapeBraces [] before s ≡ s

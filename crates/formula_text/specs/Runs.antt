@@ -3,19 +3,21 @@
 --     converts-done, converts-refused      from the call and what was written
 --     prints-neither, prints-converted     the whole run, whatever lies behind the place where reading stopped
 --     prints-within                        the text lies within the buffer
-use mathlib.Core.Path.{_≡_, refl, sym, ap, ap₂, _∙_, subst}
+use mathlib.Core.Path.{_≡_, refl, sym, ap, _∙_, subst}
 use mathlib.Core.Bool.{Bool}
 use mathlib.Core.List.{List}
 use mathlib.Core.Option.{Option, none, some}
 use Prim.Native.Nat.{ℕ, _≤_}
 use native.Mathlib.Omega.{arith}
-use lib.ListN.{length, take, drop, replicate, length-append, length-take, length-replicate}
-use lib.Seq.{take-all, take-append-seam}
+use lib.ListN.{length, take, replicate, length-append, length-take, length-replicate}
+use lib.Seq.{take-all}
 use Rattle.spec.specs.Symbols.{bytes}
 use Rattle.spec.specs.Result.{Result, passed, refused, _then_}
 use Rattle.spec.specs.Finish.{allTall}
 use Rattle.spec.specs.Pipeline.{leastWork, definitionsOr, admitted, typstToLatex, fitting, converted, answerOf, outputAfter, workAfter, Call}
 use Rattle.spec.specs.Program.{firstLine, formulaOf, mostOutput, reported, answered, printed, bufferAfter, Read, Prints}
+use Rattle.spec.specs.Laws.Result.{unpassed}
+use Rattle.spec.specs.Laws.Calls.{call-converted}
 use Rattle.formula_text.specs.Cut.{pastFormula, pastInput, pastTable, first-cut, formula-cut, converted-cut}
 use Rattle.formula_report.specs.Standing.{Stands}
 
@@ -54,20 +56,14 @@ module _ {formula table work output work′ output′ : List ℕ} {display : Boo
       }
 
   pub converts-done : {n : ℕ} {w w′ : List ℕ} {count : ℕ} → answer ≡ passed n → Stands (reported (passed (take n output′))) w count w′ → Converts formula table display work output w count work′ output′ w′
-  converts-done {n} {w} {w′} {count} e s = converts (subst (λ r. Stands (reported r) w count w′) (go (converted _ _ _ _ _ _) (sym e ∙ c .answers) (c .writes)) s)
-    where
-      go : (r : Result (List ℕ)) → passed n ≡ answerOf r → output′ ≡ outputAfter r output → passed (take n output′) ≡ r
-      go (refused k) e o = absurd (let z : _≡_ {A = ℕ} 0 1 = cc in omega arith)
-      go (passed latex) e o =
-          let long : n ≡ length latex = cc in
-          ap passed (ap₂ (λ (k : ℕ) (l : List ℕ). take k l) long o ∙ take-append-seam latex (drop (length latex) output))
+  converts-done {n} {w} {w′} {count} e s = converts (subst (λ r. Stands (reported r) w count w′) (sym (call-converted (rw e at c))) s)
 
   pub converts-refused : {k : ℕ} {w w′ : List ℕ} {count : ℕ} → answer ≡ refused k → Stands (reported (refused k)) w count w′ → Converts formula table display work output w count work′ output′ w′
   converts-refused {k} {w} {w′} {count} e s = converts (subst (λ r. Stands (reported r) w count w′) (go (converted _ _ _ _ _ _) (sym e ∙ c .answers)) s)
     where
       go : (r : Result (List ℕ)) → refused k ≡ answerOf r → refused k ≡ r
       go (refused j) e = cc
-      go (passed latex) e = absurd (let z : _≡_ {A = ℕ} 0 1 = cc in omega arith)
+      go (passed latex) e = absurd (unpassed e)
 
 -- ---- a run
 -- what an input whose first line is known prints, and what it leaves in a buffer

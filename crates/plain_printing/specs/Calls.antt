@@ -2,6 +2,7 @@
 --     no-records        a table of no records has no bytes, or the byte 00 alone
 --     call-prints       an accepting call puts out the formula's LaTeX
 --     call-accepts      a call within the limits accepts
+--     call-within       and no other
 --     accepting-call    there are such calls
 --     calls-apart       two accepting calls, under one field or two, that put out the same bytes had the same formula
 --     calls-by-frac     accepting calls on one formula put out the same bytes where their fields have the same bit of `\frac`
@@ -14,24 +15,25 @@ use Prim.Native.Nat.{ℕ, suc, _+_, _≤_}
 use native.Mathlib.Omega.{arith}
 use lib.Dec.{eqb, ltb}
 use lib.ListN.{length, take, drop, replicate}
-use lib.Seq.{take-append-seam}
-use borrow.Author.Tests.{eqb-true, le-ltb}
+use borrow.Author.Tests.{eqb-true, le-ltb, ltb-false}
 use Rattle.spec.specs.Symbols.{all}
-use Rattle.spec.specs.Result.{Result, passed, refused, mostSymbols}
+use Rattle.spec.specs.Result.{Result, passed, refused, _then_, mostSymbols}
 use Rattle.spec.specs.Table.{Definition, narrow, wide, formOf, start, definitions}
 use Rattle.spec.specs.Fractions.{mostRounds}
 use Rattle.spec.specs.Finish.{allTall, fracBit}
 use Rattle.spec.specs.Pipeline.{typstToLatex, mostFormula, leastWork, definitionsOr, checked, admitted, fitting, converted, answerOf, outputAfter, workAfter, Call}
 use Rattle.spec.specs.Grammar
 use Rattle.spec.specs.Grammar.{Plain}
-use Rattle.spec.specs.Laws.Admission.{Admission, not-admitted, is-admitted, admission}
+use Rattle.spec.specs.Laws.Result.{unrefused, first-passes}
+use Rattle.spec.specs.Laws.Admission.{admitted-passed}
+use Rattle.spec.specs.Laws.Calls.{call-converted}
 use Rattle.spec.specs.Laws.Table.{records-long, definitions-some}
 use Rattle.plain_printing.specs.Tree.{typstStyle}
 use Rattle.plain_printing.specs.Alphabet.{plainSymbol, all-plain, not-foreign}
-use Rattle.plain_printing.specs.Yields.{Yields, yields-weaken, then-yields}
+use Rattle.plain_printing.specs.Yields.{Yields, yields-weaken, then-yields, then-passes}
 use Rattle.plain_printing.specs.TreeOf.{treeOf}
 use Rattle.plain_printing.specs.TreeTexts.{text-tree}
-use Rattle.plain_printing.specs.Sums.{sum-yields, sums-apart, latex-by-frac}
+use Rattle.plain_printing.specs.Sums.{SumFits, sum-yields, sum-fits, sums-apart, latex-by-frac}
 
 -- ---- a table of no records
 abbrev pub NoRecords : List ℕ → Type 0
@@ -66,21 +68,13 @@ none-or table h = ap (λ (ds : Option (List Definition)). Option·getD ds []) h
 abbrev pub latexOf : ℕ → {formula : List ℕ} → Plain formula → List ℕ
 latexOf field p = Grammar.latex field (p .sum)
 
--- what numbers 4, 15, 7, 5 and 10 ask of a call on a plain formula: where it holds, no number refuses the call
+-- what numbers 4, 15, 7, 5 and 10 ask of a call on a plain formula: where it holds, and only there, no number refuses the call
 pub record WithinLimits (field : ℕ) {formula : List ℕ} (p : Plain formula) (work output : List ℕ) : Type 0 where
   pub work-wide : leastWork ≤ length work
   pub field-small : field ≤ allTall
   pub shallow : Grammar.height (p .sum) ≤ mostRounds
   pub latex-short : length (latexOf field p) ≤ mostSymbols
   pub output-long : length (latexOf field p) ≤ length output
-
--- a formula that is admitted is not changed
-admitted-only : (formula table : List ℕ) (field : ℕ) (work x : List ℕ) → admitted formula table field work ≡ passed x → x ≡ formula
-admitted-only formula table field work x = go (admission formula table field work)
-  where
-    go : {r : Result (List ℕ)} → Admission formula table field work r → r ≡ passed x → x ≡ formula
-    go (not-admitted n) e = cc
-    go (is-admitted a) e = cc
 
 module _ {formula : List ℕ} (p : Plain formula) (table : List ℕ) (empty : NoRecords table) (field : ℕ) (work output : List ℕ) where
   symbols-plain : all plainSymbol formula ≡ true
@@ -89,7 +83,7 @@ module _ {formula : List ℕ} (p : Plain formula) (table : List ℕ) (empty : No
   admitted-yields : Yields (WithinLimits field p work output) (admitted formula table field work) formula
   admitted-yields =
       record {
-        passes-only = admitted-only formula table field work;
+        passes-only = λ x e. (admitted-passed formula table field work e) .0;
         passes = λ w. rw (
           le-ltb (length work) leastWork (w .work-wide),
           admitted,
@@ -107,6 +101,9 @@ module _ {formula : List ℕ} (p : Plain formula) (table : List ℕ) (empty : No
       (subst (λ (f : List ℕ). Yields (WithinLimits field p work output) (typstToLatex [] true field f) (latexOf field p)) (p .reads)
       (yields-weaken (λ (w : WithinLimits field p work output). record { shallow = w .shallow; short = w .latex-short }) (sum-yields field (p .sum) (p .is-proper))))
 
+  conversion-fits : {x : List ℕ} → typstToLatex (definitionsOr table) true field formula ≡ passed x → SumFits field (p .sum)
+  conversion-fits e = sum-fits field (p .sum) (p .is-proper) (rw (none-or table empty, ← p .reads) at e)
+
   fitting-yields : Yields (WithinLimits field p work output) (fitting output (latexOf field p)) (latexOf field p)
   fitting-yields =
       record { passes-only = only (ltb (length output) (length (latexOf field p))); passes = λ w. rw (le-ltb (length output) (length (latexOf field p)) (w .output-long)) }
@@ -115,9 +112,12 @@ module _ {formula : List ℕ} (p : Plain formula) (table : List ℕ) (empty : No
       only true x e = cc
       only false x e = cc
 
+  printed-yields : Yields (WithinLimits field p work output) (admitted formula table field work then typstToLatex (definitionsOr table) true field) (latexOf field p)
+  printed-yields = then-yields _ (typstToLatex (definitionsOr table) true field) admitted-yields conversion-yields
+
   converted-yields : Yields (WithinLimits field p work output) (converted formula table true field work output) (latexOf field p)
   unfolding converted
-  converted-yields = then-yields _ (fitting output) (then-yields _ (typstToLatex (definitionsOr table) true field) admitted-yields conversion-yields) fitting-yields
+  converted-yields = then-yields _ (fitting output) printed-yields fitting-yields
 
   pub converted-prints : (x : List ℕ) → converted formula table true field work output ≡ passed x → x ≡ latexOf field p
   converted-prints = converted-yields .passes-only
@@ -125,19 +125,32 @@ module _ {formula : List ℕ} (p : Plain formula) (table : List ℕ) (empty : No
   pub converted-accepts : WithinLimits field p work output → converted formula table true field work output ≡ passed (latexOf field p)
   converted-accepts = converted-yields .passes
 
+  pub converted-within : {x : List ℕ} → converted formula table true field work output ≡ passed x → WithinLimits field p work output
+  unfolding converted
+  converted-within e =
+      let to-fitting = first-passes _ (fitting output) e in
+      let to-conversion = first-passes _ (typstToLatex (definitionsOr table) true field) (to-fitting .is-passed) in
+      let admits = (admitted-passed formula table field work (to-conversion .is-passed)) .1 in
+      let fits = conversion-fits (then-passes _ (typstToLatex (definitionsOr table) true field) admitted-yields (to-fitting .is-passed)) in
+      let room = unrefused 10 (latexOf field p) (ltb (length output) (length (latexOf field p))) (then-passes _ (fitting output) printed-yields e) in
+      record {
+        work-wide = admits .work-wide;
+        field-small = admits .field-known;
+        shallow = fits .shallow;
+        latex-short = fits .short;
+        output-long = ltb-false (length output) (length (latexOf field p)) room;
+      }
+
 -- ---- calls: the answer is a byte count, and the output is the bytes from the start of the buffer, as many as it says
 module _ {formula : List ℕ} (p : Plain formula) (table : List ℕ) (empty : NoRecords table) {field : ℕ} {work output work′ output′ : List ℕ} where
   pub call-prints : {n : ℕ} → Call formula table true field work output (passed n) work′ output′ → take n output′ ≡ latexOf field p
-  call-prints {n} c = go (converted formula table true field work output) refl (c .answers) (c .writes)
-    where
-      go : (r : Result (List ℕ)) → converted formula table true field work output ≡ r → passed n ≡ answerOf r → output′ ≡ outputAfter r output → take n output′ ≡ latexOf field p
-      go (passed s) h e f =
-          let count : n ≡ length s = cc in
-          rw (f, count) (take-append-seam s (drop (length s) output)) ∙ converted-prints p table empty field work output s h
-      go (refused number) h e f = cc
+  call-prints {n} c = converted-prints p table empty field work output (take n output′) (call-converted c)
 
   pub call-accepts : WithinLimits field p work output → {answer : Result ℕ} → Call formula table true field work output answer work′ output′ → answer ≡ passed (length (latexOf field p))
   call-accepts w c = c .answers ∙ ap answerOf (converted-accepts p table empty field work output w)
+
+  pub call-within : {n : ℕ} → Call formula table true field work output (passed n) work′ output′ → WithinLimits field p work output
+  call-within c = converted-within p table empty field work output (call-converted c)
 
 pub accepting-call : {formula : List ℕ} (p : Plain formula) (table : List ℕ) → NoRecords table → (field : ℕ) (work output : List ℕ) → WithinLimits field p work output
     → Call formula table true field work output (passed (length (latexOf field p))) (replicate (length work) 0) (latexOf field p ++ drop (length (latexOf field p)) output)

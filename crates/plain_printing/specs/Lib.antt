@@ -31,5 +31,6 @@ pub mod TreeOf
 pub mod TreeTexts
 pub mod Sums
 pub mod Calls
+pub mod Joins
 pub mod CallsExample
 pub mod Needed

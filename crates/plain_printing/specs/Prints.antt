@@ -1,5 +1,6 @@
 -- What a plain tree's text is converted to, with display on, no definitions and any tall field: all stages, none assumed.
 --     plain-yields    where no number refuses, the tree's LaTeX; and no number refuses a tree that fits
+--     plain-fits      where no number refuses, the tree fits
 use mathlib.Core.Path.{_≡_, refl, ap, _∙_}
 use mathlib.Core.Bool.{Bool, true, false}
 use mathlib.Core.List.{List, [], _∷_}
@@ -21,10 +22,11 @@ use Rattle.spec.specs.Scripts.{convertParenToBrace, wrapTextSubscripts, wrapMul
 use Rattle.spec.specs.Fractions.{mostRounds, convertFractions}
 use Rattle.spec.specs.Finish.{fracBit, escapeSetBraces, lr, convertLr, sizeDelimitersToContent, escapePercent, convertAlignment, dropThinSpaceAfterCommands}
 use Rattle.spec.specs.Pipeline.{markSolidus, unmarkSolidus, convertSyntax, typstToLatex}
+use Rattle.spec.specs.Laws.Result.{first-passes, stage-short}
 use Rattle.spec.specs.Laws.Absent.{replace-absent, cases-absent, attach-absent, quotes-absent, thin-spaces-absent}
 use Rattle.spec.specs.Laws.Held.{in-full-none}
 use Rattle.plain_printing.specs.Tree.{Tree, PlainTree, height, markedStyle, finalStyle, write, text, treeLatex}
-use Rattle.plain_printing.specs.Settle.{settle-only, settle-does}
+use Rattle.plain_printing.specs.Settle.{settle-ends, settle-does}
 use Rattle.plain_printing.specs.SizingTree.{size-plain}
 use Rattle.plain_printing.specs.Alphabet.{ends-plain}
 use Rattle.plain_printing.specs.Absent.{stopped, absent-typed, absent-marked, absent-final}
@@ -32,7 +34,7 @@ use Rattle.plain_printing.specs.CallsCopy.{calls-copy, binom-copies, sqr
 use Rattle.plain_printing.specs.Braces.{set-braces-copy, multichar-scripts-copy}
 use Rattle.plain_printing.specs.Scripts.{low-scripts, high-scripts}
 use Rattle.plain_printing.specs.Blocks.{texts-nowhere}
-use Rattle.plain_printing.specs.Yields.{Yields, passed-yields, then-yields, stage-yields}
+use Rattle.plain_printing.specs.Yields.{Yields, passed-yields, then-yields, then-passes, stage-yields}
 use Rattle.plain_printing.specs.Tables.{TreeFits, early-short, functions-yield, operators-yield, words-yield, capitals-yield}
 
 module _ (field : ℕ) (t : Tree) (plain : PlainTree t) where
@@ -69,9 +71,9 @@ module _ (field : ℕ) (t : Tree) (plain : PlainTree t) where
       (call-copies (bytes "upright(") _ refl)
 
   -- ---- up to the definitions, of which there are none
-  calls-yield :
-      Goes
-      (stage markSolidus (text t)
+  abbrev typed : Result (List ℕ)
+  typed =
+      stage markSolidus (text t)
       then stage convertOp
       then stage convertCases
       then stage convertAttach
@@ -80,8 +82,9 @@ module _ (field : ℕ) (t : Tree) (plain : PlainTree t) where
       then stage convertBinom
       then stage convertUpright
       then convertFloorCeilAbs
-      then stage convertTextQuotes)
-      (text t)
+      then stage convertTextQuotes
+
+  calls-yield : Goes typed (text t)
   calls-yield =
       then-yields _ (stage convertTextQuotes)
       (then-yields _ convertFloorCeilAbs
@@ -130,11 +133,34 @@ module _ (field : ℕ) (t : Tree) (plain : PlainTree t) where
   superscripts-yield : Goes (convertSuperscripts (marked true false 0)) (marked true true 0)
   superscripts-yield = scripts-yield (code "^") refl refl true false true true (high-scripts t plain)
 
+  scripted-yields :
+      Goes
+      (stage convertSqrt (text t)
+      then replaceRows functionMappings
+      then replaceRows operatorReplacements
+      then convertWords
+      then convertGreekCapitals
+      then convertSubscripts
+      then convertSuperscripts)
+      (marked true true 0)
+  scripted-yields =
+      then-yields _ convertSuperscripts
+      (then-yields _ convertSubscripts
+      (then-yields _ convertGreekCapitals
+      (then-yields _ convertWords
+      (then-yields _ (replaceRows operatorReplacements)
+      (then-yields _ (replaceRows functionMappings) (copies convertSqrt (sqrt-copies (text t) (absent-typed (bytes "sqrt(") refl t))) (functions-yield sized t))
+      (operators-yield sized t))
+      (words-yield sized t))
+      (capitals-yield sized t))
+      subscripts-yield)
+      superscripts-yield
+
   -- ---- fractions
   fractions-yield : Goes (convertFractions (marked true true 0)) (marked true true (height t))
   unfolding convertFractions
   fractions-yield =
-      record { passes-only = settle-only t mostRounds 0; passes = λ fits. settle-does t (λ n. marked-short true true n fits) mostRounds 0 (let d = fits .shallow in omega arith) }
+      record { passes-only = λ x e. (settle-ends t mostRounds 0 x e) .0; passes = λ fits. settle-does t (λ n. marked-short true true n fits) mostRounds 0 (let d = fits .shallow in omega arith) }
 
   -- ---- the end of convert_syntax
   abbrev stacked : List ℕ
@@ -159,32 +185,47 @@ module _ (field : ℕ) (t : Tree) (plain : PlainTree t) where
       (then-yields _ convertLr
       (then-yields _ (stage escapeSetBraces)
       (then-yields _ (stage unmarkSolidus)
-      (then-yields _ convertFractions
-      (then-yields _ convertSuperscripts
-      (then-yields _ convertSubscripts
-      (then-yields _ convertGreekCapitals
-      (then-yields _ convertWords
-      (then-yields _ (replaceRows operatorReplacements)
-      (then-yields _ (replaceRows functionMappings) (copies convertSqrt (sqrt-copies (text t) (absent-typed (bytes "sqrt(") refl t))) (functions-yield sized t))
-      (operators-yield sized t))
-      (words-yield sized t))
-      (capitals-yield sized t))
-      subscripts-yield)
-      superscripts-yield)
-      fractions-yield)
+      (then-yields _ convertFractions scripted-yields fractions-yield)
       (stacked-copies unmarkSolidus (replace-absent (solidus ∷ []) (bytes "/") stacked (absent-marked (solidus ∷ []) refl true true (height t) t))))
       (stacked-copies escapeSetBraces (set-braces-copy true true (height t) t)))
       lr-yields)
       (stage-yields (sizeDelimitersToContent field) stacked (size-plain field (height t) t (le-refl (height t))) (λ fits. fits .short)))
       (final-copies escapePercent (replace-absent (bytes "%") (bytes "\\%") latex (absent-final (bytes "%") refl sized (height t) t)))
 
+  -- where no number refuses, there were rounds enough
+  syntax-shallow : {x : List ℕ} → convertSyntax true field (text t) ≡ passed x → height t ≤ mostRounds
+  unfolding convertSyntax convertFractions
+  syntax-shallow e =
+      let to-sizing = first-passes _ (stage escapePercent) e in
+      let to-lr = first-passes _ (stage (sizeDelimitersToContent field)) (to-sizing .is-passed) in
+      let to-braces = first-passes _ convertLr (to-lr .is-passed) in
+      let to-solidus = first-passes _ (stage escapeSetBraces) (to-braces .is-passed) in
+      let to-fractions = first-passes _ (stage unmarkSolidus) (to-solidus .is-passed) in
+      (settle-ends t mostRounds 0 _ (then-passes _ convertFractions scripted-yields (to-fractions .is-passed))) .1
+
   -- ---- the whole
+  defined-yields : Goes (typed then applyDefinitionsOutsideText []) (text t)
+  defined-yields = then-yields _ (applyDefinitionsOutsideText []) calls-yield definitions-yield
+
+  thin-spaces-stay : dropThinSpaceAfterCommands latex ≡ latex
+  thin-spaces-stay = thin-spaces-absent latex (absent-final (bytes "\\;") refl sized (height t) t)
+
+  aligned-yields : Goes (typed then applyDefinitionsOutsideText [] then convertSyntax true field then stage convertAlignment) latex
+  aligned-yields =
+      then-yields _ (stage convertAlignment) (then-yields _ (convertSyntax true field) defined-yields syntax-yields)
+      (final-copies convertAlignment
+      (alignment-copies latex (absent-final (bytes "&") refl sized (height t) t) (absent-final (bytes " \\\n") refl sized (height t) t) (ends-plain (finalStyle sized) (height t) t)))
+
   pub plain-yields : Goes (typstToLatex [] true field (text t)) latex
   unfolding typstToLatex
-  plain-yields =
-      then-yields _ (stage dropThinSpaceAfterCommands)
-      (then-yields _ (stage convertAlignment)
-      (then-yields _ (convertSyntax true field) (then-yields _ (applyDefinitionsOutsideText []) calls-yield definitions-yield) syntax-yields)
-      (final-copies convertAlignment
-      (alignment-copies latex (absent-final (bytes "&") refl sized (height t) t) (absent-final (bytes " \\\n") refl sized (height t) t) (ends-plain (finalStyle sized) (height t) t))))
-      (final-copies dropThinSpaceAfterCommands (thin-spaces-absent latex (absent-final (bytes "\\;") refl sized (height t) t)))
+  plain-yields = then-yields _ (stage dropThinSpaceAfterCommands) aligned-yields (final-copies dropThinSpaceAfterCommands thin-spaces-stay)
+
+  pub plain-fits : {x : List ℕ} → typstToLatex [] true field (text t) ≡ passed x → TreeFits sized t
+  unfolding typstToLatex
+  plain-fits e =
+      let to-alignment = first-passes _ (stage dropThinSpaceAfterCommands) e in
+      let to-syntax = first-passes _ (stage convertAlignment) (to-alignment .is-passed) in
+      record {
+        shallow = syntax-shallow (then-passes _ (convertSyntax true field) defined-yields (to-syntax .is-passed));
+        short = rw thin-spaces-stay at (stage-short dropThinSpaceAfterCommands latex (then-passes _ (stage dropThinSpaceAfterCommands) aligned-yields e));
+      }

@@ -1,4 +1,6 @@
 -- Rounds until nothing changes. That they stop only when every fraction is stacked follows from the round itself: no slash is counted.
+--     settle-ends    where no number refuses, every fraction is stacked, and no more of them stand one within another than there were rounds
+--     settle-does    and where no more do, no number refuses a text that is not overgrown
 use mathlib.Core.Path.{_≡_, refl, sym, ap, _∙_}
 use mathlib.Core.Bool.{Bool, true, false, cond}
 use mathlib.Core.List.{List}
@@ -12,10 +14,12 @@ use borrow.Author.Tests.{le-ltb}
 use Rattle.spec.specs.Symbols.{same}
 use Rattle.spec.specs.Result.{Result, passed, refused, mostSymbols}
 use Rattle.spec.specs.Fractions.{convertRegularFractions, settle}
+use Rattle.spec.specs.Laws.Result.{unpassed}
 use Rattle.spec.specs.Laws.Names.{same-eq, same-refl}
 use Rattle.plain_printing.specs.Tree.{Tree, height, bracedStyle, write}
 use Rattle.plain_printing.specs.Stacked.{from-height}
 use Rattle.plain_printing.specs.Round.{round-plain}
+use Rattle.plain_printing.specs.Growth.{rounds-grow}
 
 some-injective : {s t : List ℕ} → _≡_ {A = Option (List ℕ)} (some s) (some t) → s ≡ t
 some-injective e = cc
@@ -55,25 +59,28 @@ module _ (t : Tree) where
       go false true = refl
       go false false = refl
 
-  -- ---- what the rounds come to, if no number refuses
-  abbrev Only : Result (List ℕ) → Type 0
-  Only r = (x : List ℕ) → r ≡ passed x → x ≡ write bracedStyle (height t) t
+  -- ---- what the rounds come to, if no number refuses, and how many there are at least
+  abbrev Ends : ℕ → List ℕ → Type 0
+  Ends most x = (x ≡ write bracedStyle (height t) t) × (height t ≤ most)
 
-  pub settle-only : (k n : ℕ) → Only (settle k (write bracedStyle n t))
-  settle-only zero n x e = go (same (write bracedStyle (suc n) t) (write bracedStyle n t)) refl (sym (last-round n) ∙ e)
+  ends-here : (n most : ℕ) → n ≤ most → same (write bracedStyle (suc n) t) (write bracedStyle n t) ≡ true → Ends most (write bracedStyle n t)
+  ends-here n most l h = let whole = settled n h in (whole, omega (arith, ap length whole, rounds-grow n t))
+
+  pub settle-ends : (k n : ℕ) (x : List ℕ) → settle k (write bracedStyle n t) ≡ passed x → Ends (k + n) x
+  settle-ends zero n x e = go (same (write bracedStyle (suc n) t) (write bracedStyle n t)) refl (sym (last-round n) ∙ e)
     where
-      go : (b : Bool) → same (write bracedStyle (suc n) t) (write bracedStyle n t) ≡ b → cond b (passed (write bracedStyle n t)) (refused 7) ≡ passed x → x ≡ write bracedStyle (height t) t
-      go true h e = let first : x ≡ write bracedStyle n t = cc in first ∙ settled n h
-      go false h e = cc
-  settle-only (suc k) n x e =
-      go (same (write bracedStyle (suc n) t) (write bracedStyle n t)) refl (ltb mostSymbols (length (write bracedStyle (suc n) t))) (settle-only k (suc n) x) (sym (next-round k n) ∙ e)
+      go : (b : Bool) → same (write bracedStyle (suc n) t) (write bracedStyle n t) ≡ b → cond b (passed (write bracedStyle n t)) (refused 7) ≡ passed x → Ends (0 + n) x
+      go true h e = let here : write bracedStyle n t ≡ x = cc in rw here at (ends-here n (0 + n) (omega arith) h)
+      go false h e = absurd (unpassed e)
+  settle-ends (suc k) n x e =
+      go (same (write bracedStyle (suc n) t) (write bracedStyle n t)) refl (ltb mostSymbols (length (write bracedStyle (suc n) t))) (settle-ends k (suc n) x) (sym (next-round k n) ∙ e)
     where
-      go : (b : Bool) → same (write bracedStyle (suc n) t) (write bracedStyle n t) ≡ b → (c : Bool) → (settle k (write bracedStyle (suc n) t) ≡ passed x → x ≡ write bracedStyle (height t) t)
+      go : (b : Bool) → same (write bracedStyle (suc n) t) (write bracedStyle n t) ≡ b → (c : Bool) → (settle k (write bracedStyle (suc n) t) ≡ passed x → Ends (k + suc n) x)
           → going k n b c ≡ passed x
-          → x ≡ write bracedStyle (height t) t
-      go true h c later e = let first : x ≡ write bracedStyle n t = cc in first ∙ settled n h
-      go false h true later e = cc
-      go false h false later e = later e
+          → Ends (suc k + n) x
+      go true h c later e = let here : write bracedStyle n t ≡ x = cc in rw here at (ends-here n (suc k + n) (omega arith) h)
+      go false h true later e = absurd (unpassed e)
+      go false h false later e = let p = later e in let l = p .1 in (p .0, omega arith)
 
   -- ---- enough rounds within number 5's limit come to an end
   module _ (short : (n : ℕ) → length (write bracedStyle n t) ≤ mostSymbols) where

@@ -1,6 +1,7 @@
 -- What a sum of the grammar is converted to, with display on, no definitions and any tall field.
 --     prints          where no number refuses, its LaTeX
 --     accepts         no number refuses where at most 64 of its fractions stand one within another and its LaTeX has at most 8,192 symbols
+--     sum-fits        and only there
 --     prints-apart    two sums whose texts are converted to one text have one text
 --     only-frac-sum   of the five commands that cause sizing only `\frac` can stand in the LaTeX
 --     latex-by-frac   so of the field its bit alone counts
@@ -21,7 +22,7 @@ use Rattle.plain_printing.specs.Unlatex.{latex-injective}
 use Rattle.plain_printing.specs.Tall.{only-frac, unsized-tree}
 use Rattle.plain_printing.specs.Yields.{Yields, yields-weaken}
 use Rattle.plain_printing.specs.Tables
-use Rattle.plain_printing.specs.Prints.{plain-yields}
+use Rattle.plain_printing.specs.Prints.{plain-yields, plain-fits}
 use Rattle.plain_printing.specs.TreeOf.{treeOf, height-tree, plain-tree}
 use Rattle.plain_printing.specs.TreeTexts.{text-tree, latex-tree}
 
@@ -42,6 +43,11 @@ module _ (field : ℕ) where
 
   pub accepts : (s : Sum) → proper s ≡ true → height s ≤ mostRounds → length (latex field s) ≤ mostSymbols → typstToLatex [] true field (text s) ≡ passed (latex field s)
   accepts s h shallow short = (sum-yields s h) .passes (record { shallow = shallow; short = short })
+
+  pub sum-fits : (s : Sum) → proper s ≡ true → {x : List ℕ} → typstToLatex [] true field (text s) ≡ passed x → SumFits s
+  sum-fits s h e =
+      let fits = plain-fits field (treeOf s) (plain-tree s h) (rw (← text-tree s h) at e) in
+      record { shallow = rw (height-tree s) at (fits .shallow); short = rw (latex-tree field s h) at (fits .short) }
 
   -- ---- what the field changes; 15 has the bits of the four other commands
   pub only-frac-sum : (s : Sum) → proper s ≡ true → tall 15 (latex field s) ≡ false

@@ -1,6 +1,7 @@
 -- What a chain of stages yields: where no number refuses it is one thing, and under a condition no number refuses.
 --     stage-yields    a stage whose text is known
 --     then-yields     one stage after another
+--     then-passes     where both pass, the second one does on what the first one yields
 use mathlib.Core.Path.{_≡_, refl, sym, ap, _∙_}
 use mathlib.Core.Bool.{Bool, true, false, cond}
 use mathlib.Core.List.{List}
@@ -10,6 +11,7 @@ use lib.ListN.{length}
 use borrow.Author.Tests.{le-ltb}
 use Rattle.spec.specs.Result.{Result, passed, refused, _then_, mostSymbols, grown, stage}
 use Rattle.spec.specs.Held.{heldStage}
+use Rattle.spec.specs.Laws.Result.{unpassed}
 use Rattle.spec.specs.Laws.Held.{unheld, in-full-none}
 
 pub record Yields {A : Type 0} (C : Type 0) (r : Result A) (a : A) : Type 0 where
@@ -30,6 +32,10 @@ then-yields (refused number) f {a} {b} p q = record { passes-only = λ y e. cc; 
   where
     lost : _≡_ {A = Result _} (refused number) (passed a) → _≡_ {A = Result _} (refused number) (passed b)
     lost e = cc
+
+pub then-passes : {A B C : Type 0} (r : Result A) (f : A → Result B) {a : A} {x : B} → Yields C r a → r then f ≡ passed x → f a ≡ passed x
+then-passes (passed y) f p e = sym (ap f (p .passes-only y refl)) ∙ e
+then-passes (refused number) f p e = absurd (unpassed e)
 
 module _ {C : Type 0} where
   grown-yields : {A : Type 0} (s : List ℕ) (a : A) → (C → length s ≤ mostSymbols) → Yields C (grown s a) a

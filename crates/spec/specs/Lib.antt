@@ -14,6 +14,7 @@ pub mod Matches
 pub mod Scripts
 pub mod Fractions
 pub mod Finish
+pub mod Braces
 pub mod Pipeline
 pub mod WordAt
 pub mod Program
@@ -21,3 +22,4 @@ pub mod Grammar
 pub mod GrammarExamples
 pub mod Starred
 pub mod Laws
+pub mod BracesExamples

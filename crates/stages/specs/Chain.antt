@@ -6,7 +6,6 @@ use mathlib.Core.Bool.{Bool, true, false}
 use mathlib.Core.List.{List}
 use mathlib.Core.Option.{some}
 use Prim.Native.Nat.{ℕ}
-use native.Mathlib.Omega.{arith}
 use Rattle.spec.specs.Result.{Result, passed, refused, _then_, stage}
 use Rattle.spec.specs.Calls.{convertOp, convertCases, convertAttach, convertBb, convertBold, convertBinom, convertUpright, convertFloorCeilAbs}
 use Rattle.spec.specs.Quotes.{convertTextQuotes}
@@ -14,6 +13,7 @@ use Rattle.spec.specs.Rows.{functionMappings, operatorReplacements}
 use Rattle.spec.specs.Words.{convertSqrt, replaceRows}
 use Rattle.spec.specs.Table.{definitions}
 use Rattle.spec.specs.Pipeline.{markSolidus, onDisplay, definitionsOr}
+use Rattle.spec.specs.Laws.Result.{unpassed}
 use Rattle.text.specs.Stage.{shown, Ready, Answered, Staged, answered-ready, answered-then, staged-then}
 use Rattle.text.specs.declared.Progress.{Progress}
 use Rattle.text.specs.declared.Progress.the-variants.{Text, Refused}
@@ -32,10 +32,7 @@ staged-ready r s = answered-ready r (s .answered)
 -- ---- texts without a mark
 passes-bare : {r : Result (List ℕ)} → Passes unmarked r → Bare r
 passes-bare (pass {s} a) = record { unmarked = λ t e. let same : s ≡ t = cc in subst (λ u. hasMark u ≡ false) same (each-bare a) }
-passes-bare (stop {n}) = record { unmarked = λ t e. absurd (differ e) }
-  where
-    differ : {t : List ℕ} → refused n ≡ passed t → ⊥
-    differ e = let z : _≡_ {A = ℕ} 0 1 = cc in omega arith
+passes-bare stop = record { unmarked = λ t e. absurd (unpassed e) }
 
 module _ {w w′ : List ℕ} {p p′ : Progress} {f : List ℕ → Result (List ℕ)} (keeps : (s : List ℕ) → Each unmarked s → Passes unmarked (f s)) (a : Answered w w′ p p′ f) where
   pub bare-after : Bare (shown p w) → Bare (shown p′ w′)
@@ -50,7 +47,7 @@ module _ {w w′ : List ℕ} {p p′ : Progress} {f : List ℕ → Result (List 
     where
       go : {s : List ℕ} (r : Result (List ℕ)) → ((t : List ℕ) → r ≡ passed t → definitions table ≡ some (definitionsOr table)) → (r then f) ≡ passed s → definitions table ≡ some (definitionsOr table)
       go (passed t) sound e = sound t refl
-      go (refused n) sound e = absurd (let z : _≡_ {A = ℕ} 0 1 = cc in omega arith)
+      go (refused n) sound e = absurd (unpassed e)
 
 -- ---- what definitions and words ask
 pub bare-unmarked : (w : List ℕ) (p : Progress) → Bare (shown p w) → UnmarkedProgress w p

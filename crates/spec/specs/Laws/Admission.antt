@@ -2,6 +2,7 @@
 --     Refusal           a number, with what makes admission refuse by it
 --     Admitted          what holds where it does not refuse
 --     admission         every call has one of the two
+--     admitted-passed   a formula that is admitted is not changed
 --     admitted-alike    calls come to the same if what follows admission does the same with the formula
 use mathlib.Core.Path.{_≡_, refl, sym, ap, _∙_}
 use mathlib.Core.Bool.{Bool, true, false}
@@ -16,6 +17,7 @@ use Rattle.spec.specs.Result.{Result, passed, refused, _then_}
 use Rattle.spec.specs.Table.{Definition, definitions}
 use Rattle.spec.specs.Finish.{allTall}
 use Rattle.spec.specs.Pipeline.{mostFormula, leastWork, definitionsOr, readable, admitted}
+use Rattle.spec.specs.Laws.Result.{unpassed}
 
 -- each number also has what the tests before its own found
 pub data Refusal (formula table : List ℕ) (field : ℕ) (work : List ℕ) : ℕ → Type 0 where
@@ -60,6 +62,13 @@ module _ (formula table : List ℕ) (field : ℕ) (work : List ℕ) where
             no-foreign = s;
             read = t ∙ ap some (sym (ap (λ (o : Option (List Definition)). Option·getD o []) t));
           })
+
+  pub admitted-passed : {x : List ℕ} → admitted formula table field work ≡ passed x → (x ≡ formula) × Admitted formula table field work
+  admitted-passed {x} = go admission
+    where
+      go : {r : Result (List ℕ)} → Admission formula table field work r → r ≡ passed x → (x ≡ formula) × Admitted formula table field work
+      go (not-admitted n) e = absurd (unpassed e)
+      go (is-admitted a) e = (cc, a)
 
   pub admitted-alike : (f g : List ℕ → Result (List ℕ)) → f formula ≡ g formula → (admitted formula table field work then f) ≡ (admitted formula table field work then g)
   admitted-alike f g alike = go admission
