@@ -1,5 +1,6 @@
 //! The judge's commands. This file is a module below `math_conv.rs`, which is the crate's root (see oracle/build).
 
+mod braces;
 mod cases;
 mod chains;
 #[cfg(feature = "library")]
@@ -10,6 +11,8 @@ mod fractions;
 mod generate;
 #[cfg_attr(not(feature = "library"), allow(dead_code))]
 mod grammar;
+#[cfg(feature = "library")]
+mod join_trial;
 mod judge;
 pub mod left;
 mod lengths;
@@ -58,11 +61,14 @@ judge short [FILE]                   makes the list of short plain formulas (def
 judge smallest                       the shortest texts that 5 and 7 to 9 refuse and in which the Rust loses a block, by a
                                      search through all of them; some minutes
 judge stages < LINES                 each line by one function of the Rust, as the program stage_lines answers it
+judge braces SEED N                  what request A10 says of the brace step against the Rust's, on all short texts and N others
+judge brace-dump SEED N              N texts by the Rust's brace step, as lines: index text-hex matches output-hex
 judge word-cases SEED                the cases of the program word_places (request A14), to standard output
 judge words < CASES                  for each place of each case: PLACE ok PART, or PLACE refused NUMBER
 judge word-dump < CASES              the same as lines: index formula-hex table-hex place number side start length
 judge compare SEED N                 the library against the judge; only as oracle/trial builds it
 judge plain SEED N                   the library's plain check against another parser; only as oracle/trial builds it
+judge joins SEED N                   N pairs of plain formulas and their joins (request A10); only as oracle/trial builds it
 judge words SEED N                   the library's word under the pointer against the judge's; only as oracle/trial builds it";
 
 /// The build folder is target/oracle of the repository.
@@ -96,6 +102,8 @@ fn run() -> bool {
         ["short", file] => short(file),
         ["smallest"] => smallest::smallest(),
         ["stages"] => stages::stages(),
+        ["braces", seed, n] => braces::braces(number(seed), number(n)),
+        ["brace-dump", seed, n] => braces::dump(number(seed), number(n)),
         ["word-cases", seed] => word_cases(number(seed)),
         ["words"] => word_file::words(),
         ["word-dump"] => word_file::dump(),
@@ -103,6 +111,8 @@ fn run() -> bool {
         ["compare", seed, n] => compare::compare(number(seed), number(n), &read_recorded(RECORDED)),
         #[cfg(feature = "library")]
         ["plain", seed, n] => plain_trial::trial(number(seed), number(n)),
+        #[cfg(feature = "library")]
+        ["joins", seed, n] => join_trial::trial(number(seed), number(n)),
         #[cfg(feature = "library")]
         ["words", seed, n] => word_trial::trial(number(seed), number(n)),
         _ => {

@@ -54,7 +54,7 @@ fn damaged(rng: &mut Rng, mut text: String) -> String {
 }
 
 /// Fractions, parentheses or both within each other, around the limit of rounds and far above it.
-fn nested(rng: &mut Rng) -> String {
+pub fn nested(rng: &mut Rng) -> String {
     let ways = [
         ("a/(b + ", ")"), ("a/((", "))"), ("(", ")"), ("a/(b (1 - ", "))"), ("(x_1 + ", ")"), ("(", ")/b"), ("(x - ", ")/2"),
         ("((", " + 1) c)/b"), ("(1/b ", ")/(c/d)"), ("(a/(", "))/b"),
@@ -70,7 +70,7 @@ fn nested(rng: &mut Rng) -> String {
 }
 
 /// A sum of 4,090 to 4,100 bytes, mostly.
-fn long(rng: &mut Rng) -> String {
+pub fn long(rng: &mut Rng) -> String {
     let bytes = rng.between(FORMULA_BYTES - 6, FORMULA_BYTES + 4);
     let mut text = plain::plain(rng, 2);
     while text.len() + 4 <= bytes {
