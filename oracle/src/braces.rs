@@ -1,5 +1,5 @@
-//! The brace step as document 02's A10 tells it, against the Rust's, on all short texts and on random ones; and random ones with
-//! what each closer matches, for `oracle/compute`.
+//! The brace step by its description (request A10), against the Rust's function, on all short texts and on random ones; and random
+//! ones with what each closer matches, for `oracle/compute`.
 
 use super::super as rust;
 use super::cases::hex;

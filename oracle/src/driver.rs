@@ -61,7 +61,7 @@ judge short [FILE]                   makes the list of short plain formulas (def
 judge smallest                       the shortest texts that 5 and 7 to 9 refuse and in which the Rust loses a block, by a
                                      search through all of them; some minutes
 judge stages < LINES                 each line by one function of the Rust, as the program stage_lines answers it
-judge braces SEED N                  what request A10 says of the brace step against the Rust's, on all short texts and N others
+judge braces SEED N                  the brace step's description (request A10) against the Rust's, on all short texts and N others
 judge brace-dump SEED N              N texts by the Rust's brace step, as lines: index text-hex matches output-hex
 judge word-cases SEED                the cases of the program word_places (request A14), to standard output
 judge words < CASES                  for each place of each case: PLACE ok PART, or PLACE refused NUMBER
