@@ -15,9 +15,9 @@ use Prim.Native.Nat.{ℕ, suc, _+_, _≤_}
 use native.Mathlib.Omega.{arith}
 use lib.Dec.{eqb, ltb}
 use lib.ListN.{length, take, drop, replicate}
-use borrow.Author.Tests.{eqb-true, le-ltb, ltb-false}
+use borrow.Author.Tests.{eqb-true, le-ltb}
 use Rattle.spec.specs.Symbols.{all}
-use Rattle.spec.specs.Result.{Result, passed, refused, _then_, mostSymbols}
+use Rattle.spec.specs.Result.{Result, passed, _then_, mostSymbols}
 use Rattle.spec.specs.Table.{Definition, narrow, wide, formOf, start, definitions}
 use Rattle.spec.specs.Fractions.{mostRounds}
 use Rattle.spec.specs.Finish.{allTall, fracBit}
@@ -26,7 +26,7 @@ use Rattle.spec.specs.Grammar
 use Rattle.spec.specs.Grammar.{Plain}
 use Rattle.spec.specs.Laws.Result.{unrefused, first-passes}
 use Rattle.spec.specs.Laws.Admission.{admitted-passed}
-use Rattle.spec.specs.Laws.Calls.{call-converted}
+use Rattle.spec.specs.Laws.Calls.{converted-admitted, converted-fits, call-converted}
 use Rattle.spec.specs.Laws.Table.{records-long, definitions-some}
 use Rattle.plain_printing.specs.Tree.{typstStyle}
 use Rattle.plain_printing.specs.Alphabet.{plainSymbol, all-plain, not-foreign}
@@ -106,11 +106,10 @@ module _ {formula : List ℕ} (p : Plain formula) (table : List ℕ) (empty : No
 
   fitting-yields : Yields (WithinLimits field p work output) (fitting output (latexOf field p)) (latexOf field p)
   fitting-yields =
-      record { passes-only = only (ltb (length output) (length (latexOf field p))); passes = λ w. rw (le-ltb (length output) (length (latexOf field p)) (w .output-long)) }
-    where
-      only : (b : Bool) (x : List ℕ) → cond b (refused 10) (passed (latexOf field p)) ≡ passed x → x ≡ latexOf field p
-      only true x e = cc
-      only false x e = cc
+      record {
+        passes-only = λ x e. unrefused 10 (latexOf field p) (ltb (length output) (length (latexOf field p))) e .0;
+        passes = λ w. rw (le-ltb (length output) (length (latexOf field p)) (w .output-long));
+      }
 
   printed-yields : Yields (WithinLimits field p work output) (admitted formula table field work then typstToLatex (definitionsOr table) true field) (latexOf field p)
   printed-yields = then-yields _ (typstToLatex (definitionsOr table) true field) admitted-yields conversion-yields
@@ -127,18 +126,16 @@ module _ {formula : List ℕ} (p : Plain formula) (table : List ℕ) (empty : No
 
   pub converted-within : {x : List ℕ} → converted formula table true field work output ≡ passed x → WithinLimits field p work output
   unfolding converted
-  converted-within e =
+  converted-within {x} e =
       let to-fitting = first-passes _ (fitting output) e in
-      let to-conversion = first-passes _ (typstToLatex (definitionsOr table) true field) (to-fitting .is-passed) in
-      let admits = (admitted-passed formula table field work (to-conversion .is-passed)) .1 in
       let fits = conversion-fits (then-passes _ (typstToLatex (definitionsOr table) true field) admitted-yields (to-fitting .is-passed)) in
-      let room = unrefused 10 (latexOf field p) (ltb (length output) (length (latexOf field p))) (then-passes _ (fitting output) printed-yields e) in
+      let admits = converted-admitted formula table true field work output e in
       record {
         work-wide = admits .work-wide;
         field-small = admits .field-known;
         shallow = fits .shallow;
         latex-short = fits .short;
-        output-long = ltb-false (length output) (length (latexOf field p)) room;
+        output-long = rw (converted-prints x e) at (converted-fits formula table true field work output e);
       }
 
 -- ---- calls: the answer is a byte count, and the output is the bytes from the start of the buffer, as many as it says

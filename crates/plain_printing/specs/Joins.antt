@@ -15,7 +15,7 @@ use Rattle.spec.specs.Finish.{fracBit}
 use Rattle.spec.specs.Pipeline.{mostFormula, leastWork, Call}
 use Rattle.spec.specs.Grammar.{Sum, product, plus, minus, proper, properProduct, text, productText, sumLatex, productLatex, latex, height, Plain}
 use Rattle.spec.specs.Laws.Booleans.{and-left, and-right, and-both}
-use Rattle.spec.specs.Laws.Calls.{call-admitted}
+use Rattle.spec.specs.Laws.Calls.{converted-admitted, call-converted}
 use Rattle.plain_printing.specs.Calls.{NoRecords, latexOf, WithinLimits, call-prints, call-within, call-accepts}
 
 -- ---- texts and sums
@@ -69,7 +69,7 @@ module _ {f g : List ℕ} (p : Plain f) (q : Plain g) {table : List ℕ} (empty 
     (c : Call (joined f g) table true field work output (passed k) work′ output′) where
   -- an accepted formula is not too long
   whole : Plain (joined f g)
-  whole = plain-join p q (call-admitted c .short)
+  whole = plain-join p q (converted-admitted (joined f g) table true field work output (call-converted c) .short)
 
   whole-latex : latexOf field whole ≡ joined (latexOf field p) (latexOf field q)
   unfolding whole plain-join

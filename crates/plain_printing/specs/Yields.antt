@@ -3,7 +3,7 @@
 --     then-yields     one stage after another
 --     then-passes     where both pass, the second one does on what the first one yields
 use mathlib.Core.Path.{_≡_, refl, sym, ap, _∙_}
-use mathlib.Core.Bool.{Bool, true, false, cond}
+use mathlib.Core.Bool.{cond}
 use mathlib.Core.List.{List}
 use Prim.Native.Nat.{ℕ, _≤_}
 use lib.Dec.{ltb}
@@ -11,7 +11,7 @@ use lib.ListN.{length}
 use borrow.Author.Tests.{le-ltb}
 use Rattle.spec.specs.Result.{Result, passed, refused, _then_, mostSymbols, grown, stage}
 use Rattle.spec.specs.Held.{heldStage}
-use Rattle.spec.specs.Laws.Result.{unpassed}
+use Rattle.spec.specs.Laws.Result.{unpassed, unrefused}
 use Rattle.spec.specs.Laws.Held.{unheld, in-full-none}
 
 pub record Yields {A : Type 0} (C : Type 0) (r : Result A) (a : A) : Type 0 where
@@ -39,11 +39,8 @@ then-passes (refused number) f p e = absurd (unpassed e)
 
 module _ {C : Type 0} where
   grown-yields : {A : Type 0} (s : List ℕ) (a : A) → (C → length s ≤ mostSymbols) → Yields C (grown s a) a
-  grown-yields {A} s a short = record { passes-only = only (ltb mostSymbols (length s)); passes = λ c. ap (λ b. cond b (refused 5) (passed a)) (le-ltb mostSymbols (length s) (short c)) }
-    where
-      only : (b : Bool) (x : A) → cond b (refused 5) (passed a) ≡ passed x → x ≡ a
-      only true x e = cc
-      only false x e = cc
+  grown-yields s a short =
+      record { passes-only = λ x e. unrefused 5 a (ltb mostSymbols (length s)) e .0; passes = λ c. ap (λ b. cond b (refused 5) (passed a)) (le-ltb mostSymbols (length s) (short c)) }
 
   pub stage-yields : (f : List ℕ → List ℕ) (s : List ℕ) {t : List ℕ} → f s ≡ t → (C → length t ≤ mostSymbols) → Yields C (stage f s) t
   stage-yields f s {t} e short = rw e (grown-yields t t short)

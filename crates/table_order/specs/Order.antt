@@ -4,7 +4,7 @@
 --     Nexts                  what `next` ensures
 -- Assumes nothing.
 use mathlib.Core.Path.{_≡_, refl, sym, ap, _∙_}
-use mathlib.Core.Bool.{Bool, true, false, true≢false}
+use mathlib.Core.Bool.{Bool, true, false, cond, true≢false}
 use mathlib.Core.List.{List, [], _∷_}
 use mathlib.Core.Option.{Option, none, some}
 use Prim.Native.Nat.{ℕ}
@@ -61,6 +61,12 @@ chosen s Unreadable = none
 pub record Sooner (s : List ℕ) (best : Reading) (found : Record) (r : Reading) : Type 0 where
   pub choice : chosen s r ≡ sooner (chosen s best) (some (definitionAt s found))
   pub stands : ReadingLies s r
+
+-- a whole record beside another, where the test of the two comes to b
+pub sooner-whole : (s : List ℕ) {best : Reading} (first found : Record) → best ≡ Whole first → {b : Bool} → precedes (nameAt s first) (nameAt s found) ≡ b
+    → cond b (some (definitionAt s first)) (some (definitionAt s found)) ≡ sooner (chosen s best) (some (definitionAt s found))
+sooner-whole s first found e h =
+    sym (ap (λ b. sooner (chosen s b) (some (definitionAt s found))) e ∙ ap (λ t. cond t (some (definitionAt s first)) (some (definitionAt s found))) h)
 
 -- of `next`: the first of the order of what is left. A record counts by its definition: where it stands is open beyond that
 pub record Nexts (s : List ℕ) (c : Cursor) (r : Reading) : Type 0 where

@@ -1,4 +1,5 @@
 -- Laws of results and of stages that pass. Assumes nothing.
+--     unrefused       where a test that refuses lets something pass, it is that, and the test fails
 --     first-passes    where a stage after another passes, the first one has
 --     stage-short     where a stage passes, number 5 has let its text pass
 use mathlib.Core.Path.{_≡_, refl}
@@ -14,9 +15,9 @@ use Rattle.spec.specs.Result.{Result, passed, refused, _then_, mostSymbo
 pub unpassed : {A : Type 0} {number : ℕ} {x : A} → _≡_ {A = Result A} (refused number) (passed x) → ⊥
 unpassed e = let lost : _≡_ {A = ℕ} 0 1 = cc in omega arith
 
-pub unrefused : {A : Type 0} (number : ℕ) (y : A) (b : Bool) {x : A} → cond b (refused number) (passed y) ≡ passed x → b ≡ false
+pub unrefused : {A : Type 0} (number : ℕ) (y : A) (b : Bool) {x : A} → cond b (refused number) (passed y) ≡ passed x → (x ≡ y) × (b ≡ false)
 unrefused number y true e = absurd (unpassed e)
-unrefused number y false e = refl
+unrefused number y false e = (cc, refl)
 
 pub record Passing {A : Type 0} (r : Result A) : Type 0 where
   pub value : A
@@ -27,4 +28,4 @@ first-passes (passed a) f e = record { value = a; is-passed = refl }
 first-passes (refused number) f e = absurd (unpassed e)
 
 pub stage-short : (f : List ℕ → List ℕ) (s : List ℕ) {x : List ℕ} → stage f s ≡ passed x → length (f s) ≤ mostSymbols
-stage-short f s e = ltb-false mostSymbols (length (f s)) (unrefused 5 (f s) (ltb mostSymbols (length (f s))) e)
+stage-short f s e = ltb-false mostSymbols (length (f s)) (unrefused 5 (f s) (ltb mostSymbols (length (f s))) e .1)

@@ -1,12 +1,11 @@
 -- `table_order::sooner` meets its contract: the first where it precedes the second. Assumes nothing.
 use mathlib.Core.Path.{refl, sym, ap, _∙_, subst}
-use mathlib.Core.Bool.{cond}
 use mathlib.Core.Option.{some}
 use borrow.Author.Needs.{needs}
 use Rattle.spec.specs.Laws.Selection.{sooner}
 use Rattle.table.specs.Reading.{ReadingLies, stands-lies, definitionAt}
 use Rattle.table.proofs.Tags.{unless-whole}
-use Rattle.table_order.specs.Order.{chosen}
+use Rattle.table_order.specs.Order.{chosen, sooner-whole}
 use Rattle.table_order.proofs.sooner.Statement.{statement}
 use Rattle.table_order.proofs.sooner.Tie as tie
 
@@ -26,13 +25,11 @@ returns-2 : tie.Need-returns-2
 returns-2 c =
     let at-start : tie.Start = search in
     let at-best : tie.After-best = search in
+    let is-whole = at-best .best .given .1 in
     let s = at-start .args .table .now in
-    let first = definitionAt s (at-best .best .given .0 .0) in let found = definitionAt s (at-start .args .found) in
     record {
-      choice =
-          sym (ap (λ b. sooner (chosen s b) (some found)) (at-best .best .given .1)
-          ∙ ap (λ t. cond t (some first) (some found)) (sym (c .before .precedes .ensures) ∙ c .if1 .taken));
-      stands = subst (ReadingLies s) (at-best .best .given .1) (at-start .pre .0);
+      choice = sooner-whole s (at-best .best .given .0 .0) (at-start .args .found) is-whole (sym (c .before .precedes .ensures) ∙ c .if1 .taken);
+      stands = subst (ReadingLies s) is-whole (at-start .pre .0);
     }
 
 returns-3 : tie.Need-returns-3
@@ -40,11 +37,8 @@ returns-3 c =
     let at-start : tie.Start = search in
     let at-best : tie.After-best = search in
     let s = at-start .args .table .now in
-    let first = definitionAt s (at-best .best .given .0 .0) in let found = definitionAt s (at-start .args .found) in
     record {
-      choice =
-          sym (ap (λ b. sooner (chosen s b) (some found)) (at-best .best .given .1)
-          ∙ ap (λ t. cond t (some first) (some found)) (sym (c .before .precedes .ensures) ∙ c .if1 .left));
+      choice = sooner-whole s (at-best .best .given .0 .0) (at-start .args .found) (at-best .best .given .1) (sym (c .before .precedes .ensures) ∙ c .if1 .left);
       stands = at-start .pre .1;
     }
 
