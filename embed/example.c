@@ -1,5 +1,5 @@
-/* Converts some correction formulas of a calibration bench, with definitions, one of them with small brackets too, writes some as MathML,
- * and shows what the words of one stand for. Built and run by embed/run-c. */
+/* Converts some correction formulas of a calibration bench, with definitions, one of them with small brackets too, and shows what the
+ * words of one stand for. Built and run by embed/run-c. */
 #include "jistranu.h"
 
 #include <stdio.h>
@@ -59,18 +59,6 @@ static void convert_under(const char *formula, uint32_t field)
     print_latex(formula, field);
 }
 
-static void print_mathml(const char *formula)
-{
-    size_t count;
-    uint64_t answer = jistranu_plain_to_mathml(
-        (const uint8_t *)formula, strlen(formula), output, sizeof output, &count);
-    printf("%s in MathML\n", formula);
-    if (answer == JISTRANU_DONE)
-        printf("    %.*s\n", (int)count, (const char *)output);
-    else
-        printf("    refused %d\n", (int)answer);
-}
-
 static void show_word(const char *formula, size_t place)
 {
     bool defined;
@@ -102,9 +90,6 @@ int main(void)
     convert_under("(U/U_0) [sqrt(R)]", JISTRANU_ALL_TALL);
     convert_under("(U/U_0) [sqrt(R)]", JISTRANU_TALL_SQRT);
     convert_under("(U/U_0) [sqrt(R)]", 32);
-    print_mathml("F_1 + (F_2 - 1)/G");
-    print_mathml("2 pi f");
-    print_mathml("1/2/pi");
     show_word("gain/2 + x_gain", 0);
     show_word("gain/2 + x_gain", 4);
     show_word("gain/2 + x_gain", 5);

@@ -1,4 +1,4 @@
-/* Typst math in, LaTeX or MathML out: the functions of libjistranu.a, which `embed/library` builds (`rt staticlib jistranu`).
+/* Typst math in, LaTeX out: the functions of libjistranu.a, which `embed/library` builds (`rt staticlib jistranu`).
  *
  * The library allocates nothing, keeps nothing between two calls and calls nothing but memset, so any number of threads
  * may call it, each with buffers of its own.
@@ -29,7 +29,7 @@ enum {
     JISTRANU_WIDE_NAME_BYTES = 127,   /* in the wide form a defined name has at most this many bytes, */
     JISTRANU_WIDE_LATEX_BYTES = 8191, /* and its LaTeX this many */
     JISTRANU_WORK_BYTES = 32768,      /* a conversion is lent at least this many bytes to work in */
-    JISTRANU_OUTPUT_BYTES = 8192,     /* no LaTeX is longer: with this room, a conversion never answers 10 */
+    JISTRANU_OUTPUT_BYTES = 8192,     /* no answer is longer: with this room, number 10 is never met */
 };
 
 /* The tall field of a conversion: the bits of the commands that enlarge the delimiters around them, added up. */
@@ -42,10 +42,9 @@ enum {
     JISTRANU_ALL_TALL = 31,  /* all five, as in the Rust module */
 };
 
-/* What a conversion, jistranu_plain_to_mathml and jistranu_word_at answer: 0, or why there is no LaTeX, no MathML or no word. Where
- * several reasons hold, a conversion answers 4 first, then 15, 2, 1 and 3, then the first of 5 to 9 that is met on the way, and 10 last;
- * jistranu_plain_to_mathml answers 2, 1, 12 and 10 in this order, and no other; jistranu_word_at answers 2, 1 and 3 in this order, and
- * 16 last. No call answers 11, 13 or 14. */
+/* What a conversion and jistranu_word_at answer: 0, or why there is no LaTeX or no word. Where several reasons hold, a conversion
+ * answers 4 first, then 15, 2, 1 and 3, then the first of 5 to 9 that is met on the way, and 10 last; jistranu_word_at answers 2, 1
+ * and 3 in this order, and 16 last. No call answers 11 to 14. */
 enum jistranu_answer {
     JISTRANU_DONE = 0,
     JISTRANU_FOREIGN_BYTE = 1,   /* the formula holds something else than ASCII text, tabs and newlines */
@@ -57,8 +56,7 @@ enum jistranu_answer {
     JISTRANU_UNSETTLED = 7,      /* more than 64 fractions stand one within the other, or in a chain of slashes */
     JISTRANU_BARE_DELIMITER = 8, /* lr encloses a delimiter and nothing else, as in lr(|) */
     JISTRANU_BARRED_SOLIDUS = 9, /* a denominator within bars holds an escaped slash, as in a/abs(b \/ c) */
-    JISTRANU_SHORT_OUTPUT = 10,  /* the LaTeX or MathML is longer than the output buffer */
-    JISTRANU_NOT_PLAIN = 12,     /* the formula is not plain; only jistranu_plain_to_mathml answers it */
+    JISTRANU_SHORT_OUTPUT = 10,  /* the LaTeX is longer than the output buffer */
     JISTRANU_TALL_FIELD = 15,    /* the tall field is above 31 */
     JISTRANU_NO_WORD = 16,       /* the place is not on a letter or digit of the formula; only jistranu_word_at answers it */
 };
@@ -96,21 +94,6 @@ uint64_t jistranu_typst_to_latex(
  * Two different plain formulas, converted with display on and no definitions under one tall field, never give the same LaTeX.
  */
 bool jistranu_plain_check(const uint8_t *formula, size_t formula_len, size_t *atoms);
-
-/* Writes a plain formula as MathML Core, without the `math` element around it, which a page puts there: elements without attributes,
- * with nothing between them, in ASCII. Letters and Greek are `mi`, Greek as a decimal character reference, numbers `mn`, signs and
- * parentheses `mo`; the whole formula is an `mrow`, and so is each sum in parentheses, as a factor with its two `mo`.
- *
- * Answers JISTRANU_DONE, and the MathML is the first *count bytes of `output` (no 0 byte is added); or JISTRANU_LONG_FORMULA,
- * JISTRANU_FOREIGN_BYTE, JISTRANU_NOT_PLAIN or JISTRANU_SHORT_OUTPUT, the first that holds, and *count is 0. No other byte of `output`
- * is written. What a conversion refuses for its depth or its length is written all the same.
- *
- * Two different plain formulas never give the same MathML.
- */
-uint64_t jistranu_plain_to_mathml(
-    const uint8_t *formula, size_t formula_len,
-    uint8_t *output, size_t output_len,
-    size_t *count);
 
 /* What the word at a byte place of a formula stands for. A word is the longest run of letters and digits around the place. The
  * table is that of a conversion.

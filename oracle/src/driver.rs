@@ -16,14 +16,7 @@ mod join_trial;
 mod judge;
 pub mod left;
 mod lengths;
-#[cfg(feature = "library")]
-mod lent;
 mod long_tables;
-mod mathml;
-mod mathml_dump;
-mod mathml_reader;
-#[cfg(feature = "library")]
-mod mathml_trial;
 mod passing;
 mod pieces;
 mod plain;
@@ -73,13 +66,10 @@ judge brace-dump SEED N              N texts by the Rust's brace step, as lines:
 judge word-cases SEED                the cases of the program word_places (request A14), to standard output
 judge words < CASES                  for each place of each case: PLACE ok PART, or PLACE refused NUMBER
 judge word-dump < CASES              the same as lines: index formula-hex table-hex place number side start length
-judge mathml < LINES                 each line's MathML (request A7), or refused NUMBER
-judge mathml-dump SEED N             N plain formulas as lines: index formula-hex mathml-hex tree
 judge compare SEED N                 the library against the judge; only as oracle/trial builds it
 judge plain SEED N                   the library's plain check against another parser; only as oracle/trial builds it
 judge joins SEED N                   N pairs of plain formulas and their joins (request A10); only as oracle/trial builds it
-judge words SEED N                   the library's word under the pointer against the judge's; only as oracle/trial builds it
-judge mathml SEED N                  the library's MathML against the judge's; only as oracle/trial builds it";
+judge words SEED N                   the library's word under the pointer against the judge's; only as oracle/trial builds it";
 
 /// The build folder is target/oracle of the repository.
 const RECORDED: &str = concat!(env!("CARGO_MANIFEST_DIR"), "/../../crates/replay/data/cases.bin");
@@ -117,8 +107,6 @@ fn run() -> bool {
         ["word-cases", seed] => word_cases(number(seed)),
         ["words"] => word_file::words(),
         ["word-dump"] => word_file::dump(),
-        ["mathml"] => mathml::lines(),
-        ["mathml-dump", seed, n] => mathml_dump::dump(number(seed), number(n)),
         #[cfg(feature = "library")]
         ["compare", seed, n] => compare::compare(number(seed), number(n), &read_recorded(RECORDED)),
         #[cfg(feature = "library")]
@@ -127,8 +115,6 @@ fn run() -> bool {
         ["joins", seed, n] => join_trial::trial(number(seed), number(n)),
         #[cfg(feature = "library")]
         ["words", seed, n] => word_trial::trial(number(seed), number(n)),
-        #[cfg(feature = "library")]
-        ["mathml", seed, n] => mathml_trial::trial(number(seed), number(n)),
         _ => {
             eprintln!("{USAGE}");
             false

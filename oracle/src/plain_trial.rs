@@ -12,7 +12,7 @@ use std::collections::HashMap;
 use std::sync::Mutex;
 
 /// The most fractions within each other that the rounds settle.
-pub const NESTED: usize = 64;
+const NESTED: usize = 64;
 
 /// What a nearly plain text is made of.
 const PARTS: [&str; 28] = [
@@ -20,8 +20,7 @@ const PARTS: [&str; 28] = [
     "alpha", "(a/", ")/", "/(", "/b",
 ];
 
-/// About half of them are plain.
-pub fn text(rng: &mut Rng) -> String {
+fn text(rng: &mut Rng) -> String {
     let depth = rng.between(1, 5);
     match rng.below(200) {
         0..=89 => plain::plain(rng, depth),

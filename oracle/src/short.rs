@@ -1,14 +1,11 @@
-//! The list of all short plain formulas, with their atom counts, their LaTeX and their MathML: what the program `plain_short` writes.
+//! The list of all short plain formulas, with their atom counts and their LaTeX: what the program `plain_short` writes.
 //!
 //! The trees are built rule by rule from document 01's grammar, with slashes in numerators too (A4), shorter parts first. Before
 //! the list is given out, the parser is run on every short text: it must find these trees and no others. And the Rust must print each
-//! as written here, and its MathML must be read back (A7). All this is asked of somewhat longer formulas too, which are not on the list:
-//! there numerators begin to hold slashes.
+//! as written here. Both are asked of somewhat longer formulas too, which are not on the list: there numerators begin to hold slashes.
 
 use super::grammar::{parse, Factor, Operand, Product, Script, Sum};
 use super::judge::{judge, roomy, Answer};
-use super::mathml::mathml;
-use super::mathml_reader;
 use std::collections::{BTreeSet, HashMap};
 
 /// In the order of the list.
@@ -17,7 +14,7 @@ const LONGEST: usize = 5;
 /// `((a/b))/c` has so many bytes.
 const LONGEST_ASKED: usize = 9;
 
-/// A line for each formula: the formula, its atoms, its LaTeX, its MathML, with tabs between them; then the totals.
+/// A line for each formula: the formula, its atoms, its LaTeX, with tabs between them; then the totals.
 pub fn list() -> String {
     let formulas = formulas(LONGEST);
     let (mut texts, mut lines) = (0, String::new());
@@ -29,14 +26,14 @@ pub fn list() -> String {
         let Some(tree) = tree else { continue };
         let latex = tree.latex(true);
         assert!(printed.insert(latex.clone()), "no other formula prints as {text:?}");
-        lines += &format!("{text}\t{}\t{latex}\t{}\n", tree.atoms(), mathml(tree));
+        lines += &format!("{text}\t{}\t{latex}\n", tree.atoms());
     }
     assert_eq!(printed.len(), formulas.len(), "each formula is one of the texts");
     ask_all(&self::formulas(LONGEST_ASKED));
     format!("{lines}{texts} texts, {} plain, {} different LaTeX texts\n", formulas.len(), printed.len())
 }
 
-/// Each text has this tree by the parser too, prints as written here, and as no other does; and its MathML is read back.
+/// Each text has this tree by the parser too, prints as written here, and as no other does.
 fn ask_all(formulas: &HashMap<String, Sum>) {
     let mut printed = BTreeSet::new();
     for (text, tree) in formulas {
@@ -44,7 +41,6 @@ fn ask_all(formulas: &HashMap<String, Sum>) {
         let latex = tree.latex(true);
         assert_eq!(judge(&roomy(text, &[], true)), Answer::Done(latex.clone().into_bytes()), "what the Rust prints for {text:?}");
         assert!(printed.insert(latex), "no other formula prints as {text:?}");
-        assert_eq!(mathml_reader::formula(&mathml(tree)).as_ref(), Some(text), "the MathML of {text:?}, read back");
     }
 }
 

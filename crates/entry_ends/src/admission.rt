@@ -49,7 +49,7 @@ pub fn admit(work: &mut [u8], formula: &[u8], table: &[u8], field: u32) -> Progr
 }
 
 // Number 1: whether a byte of the formula is foreign.
-pub fn has_foreign(formula: &[u8]) -> bool
+fn has_foreign(formula: &[u8]) -> bool
     ensures { result ≡ any foreign formula.now }
 {
     !text_symbols::all_in(formula, Class::Formula)

@@ -2,11 +2,11 @@
 mod admission;
 mod output;
 
-pub use admission::{Verdict, admit, check, has_foreign};
+pub use admission::{Verdict, admit, check};
 pub use output::put_out;
 use text::Refusal;
 
-// The byte count of what was put out, or why there is nothing.
+// The byte count of the LaTeX, or why there is none.
 #[derive(Drop)]
 pub enum Answer {
     Done(usize),

@@ -3,10 +3,10 @@
 --     greek-between, word-between  a row whose texts hold no mark
 --     fine_rows                     the test of a table's rows, computed for both tables
 --     definitions-made, rows_made  so a run of definitions, and of a table, keeps what is held well made
-use Rattle.std.specs.Prelude.{◌≡◌, refl, Bool, true, false, not, cond, ◌&&◌, ◌||◌, List, [], ◌∷◌, ◌++◌, ℕ, eqb, ltb, length}
-use Rattle.std.proofs.Common.{sym, ap, ap₂, ◌∙◌, subst, eqb-true}
-use Rattle.std.proofs.lemmas.Bool.{false≢true, not-true, not-false}
-use Rattle.std.proofs.Math.Bool.{and-true}
+use Rattle.std.specs.Prelude.{◌≡◌, refl, Bool, true, false, not, cond, ◌&&◌, ◌||◌, List, [], ◌∷◌, ◌++◌, ℕ, ◌<◌, eqb, leb, ltb, length}
+use Rattle.std.proofs.Common.{sym, ap, ap₂, ◌∙◌, subst, arith, eqb-true, leb-true}
+use Rattle.std.proofs.lemmas.Bool.{false≢true, lt-leb, not-true, not-false}
+use Rattle.std.proofs.Math.Bool.{and-false, and-true}
 use Rattle.std.proofs.Math.Option.{Option, none, some, get_or}
 use Rattle.spec.specs.Symbols.{is, digit, letter, alnum, wordly, foreign, head, all, any, empty, text_mark, roman_mark}
 use Rattle.spec.specs.Sweep.{Rule, sweep, replacing}
@@ -18,7 +18,6 @@ use Rattle.spec.specs.Rows.{Row, greek_letters, word_mappings}
 use Rattle.spec.specs.Words.{greek, word, literal, word_or_literal, held_rows}
 use Rattle.spec.specs.Pipeline.{definitions_or}
 use Rattle.spec.specs.Laws.Booleans.{or-neither, and_parts}
-use Rattle.spec.specs.Laws.Symbols.{letter-not-digit}
 use Rattle.spec.specs.Laws.Order.{rearranged-in-order}
 use Rattle.spec.specs.Laws.Table.{definitions-some}
 use Rattle.held_laws.specs.Marks.{is_mark, has_mark}
@@ -47,12 +46,23 @@ all-unmarked f t r (x ∷ s) e =
     let both = and_parts (f x) (all f s) e in
     ap₂ (λ a b. a || b) (unmarked (λ y. not (f y)) (ap not t) (ap not r) x (ap not both.0)) (all-unmarked f t r s both.1)
 
+letter-no-digit : (x : ℕ) → letter x ≡ true → digit x ≡ false
+letter-no-digit x e = go (leb 97 x) refl (leb 65 x) refl e
+  where
+    large : 57 < x → leb 48 x && leb x 57 ≡ false
+    large l = rw (lt-leb x 57 l) (and-false (leb 48 x))
+
+    go : (a : Bool) → leb 97 x ≡ a → (b : Bool) → leb 65 x ≡ b → (a && leb x 122) || (b && leb x 90) ≡ true → digit x ≡ false
+    go true p b q e = let l = leb-true 97 x p in large (omega arith)
+    go false p true q e = let l = leb-true 65 x q in large (omega arith)
+    go false p false q e = absurd (false≢true e)
+
 -- ---- definitions
 letter-start : (w : List ℕ) → letter (head w) && all alnum w ≡ true → Name w
 letter-start [] e = absurd (false≢true e)
 letter-start (x ∷ w) e =
     let both = and_parts (letter x) (all alnum (x ∷ w)) e in
-    record { start = x; more = w; split = refl; no_digit = letter-not-digit x both.0; mark-free = all-unmarked alnum refl refl (x ∷ w) both.1 }
+    record { start = x; more = w; split = refl; no_digit = letter-no-digit x both.0; mark-free = all-unmarked alnum refl refl (x ∷ w) both.1 }
 
 -- a definition that number 3 lets pass
 pub record SoundDefinition (d : Definition) : Type 0 where

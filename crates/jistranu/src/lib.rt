@@ -1,8 +1,6 @@
-// The library that C and Rust link: the entry, the plain check, the writer of MathML and the word under the pointer, each with its answer in
-// numbers.
+// The library that C and Rust link: the entry, the plain check and the word under the pointer, each with its answer in numbers.
 ghost use Rattle.std.specs.Prelude.{◌≡◌, false};
 ghost use Rattle.spec.specs.Pipeline.{Call};
-ghost use Rattle.spec.specs.Mathml.{MathmlCall};
 ghost use Rattle.spec.specs.WordAt.{word_at, number_of, part_of};
 ghost use Rattle.plain_check.specs.Check.{Checked as PlainChecked};
 ghost use Rattle.answer_codes.specs.Codes.{result_of, plain_answer_of, part_coded};
@@ -34,20 +32,6 @@ pub extern "C" fn jistranu_plain_check(formula: &[u8], atoms: &mut usize) -> boo
 {
     let answer = plain_check::plain_check(formula);
     answer_codes::plain_code(answer, atoms)
-}
-
-// 0, and in `count` the bytes of MathML at the start of `output`; or the number of the refusal, and 0.
-#[unsafe(no_mangle)]
-pub extern "C" fn jistranu_plain_to_mathml(
-    formula: &[u8],
-    output: &mut [u8],
-    count: &mut usize,
-) -> u64
-    ensures mathml_call { MathmlCall formula.now output.old (result_of result count.new) output.new }
-    ensures count_after { (result ≡ 0 → ⊥) → count.new ≡ 0 }
-{
-    let answer = mathml::plain_to_mathml(formula, output);
-    answer_codes::answer_code(answer, count)
 }
 
 // 0, and the part that the word at the place stands for: `defined` if it is a name's LaTeX, from `start` of the table on, and else the word

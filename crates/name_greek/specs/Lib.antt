@@ -1,3 +1,2 @@
--- Tables of names, as the code holds them, and the row of a name.
-pub mod Names
+-- Tables of names, as the code holds them.
 pub mod Rows

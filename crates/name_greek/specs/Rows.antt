@@ -5,13 +5,12 @@
 -- Assumes nothing.
 use Rattle.std.specs.Prelude.{◌≡◌, Bool, true, false, ◌&&◌, List, [], ◌∷◌, ℕ, zero, suc, ◌+◌, ◌-◌, ◌*◌, ◌/◌, ◌≤◌, ◌<◌, leb, length, get_or}
 use Rattle.std.proofs.Common.{sym, ap, ◌∙◌, not-suc-le-zero, le_of_suc-le-suc, arith, leb-true}
-use Rattle.std.proofs.Math.Option.{none, some}
 use Rattle.spec.specs.Laws.Booleans.{and_left, and_right}
 use Rattle.spec.specs.Symbols.{same}
+use Rattle.spec.specs.Finish.{one_of}
 use Rattle.spec.specs.Rows.{Row}
 use Rattle.spec.specs.Grammar.{typsts}
 use Rattle.text_symbols.specs.Parts.{part, whole_part}
-use Rattle.name_greek.specs.Names.{row_from}
 
 -- the text whose length stands at a place
 abbrev pub text_at : List ℕ → ℕ → List ℕ
@@ -83,13 +82,13 @@ pub rows_all : (table : List ℕ) → rows_from table 0 (length table / 36 - 0) 
 unfolding rows_of
 rows_all table = let z : length table / 36 - 0 ≡ length table / 36 = omega arith in ap (rows_from table 0) z
 
--- ---- the row in which a text is the name: it is none of the names before row k
+-- ---- whether a text is a name of the table: the rows before row k are not
 module _ (table s : List ℕ) (k n : ℕ) (h : k < n) where
-  pub this-row : same (row_at table k).typst s ≡ true → some k ≡ row_from k (typsts (rows_from table k (n - k))) s
-  this-row e = rw (row_next table k n h, row_from, e)
+  pub this-row : same (row_at table k).typst s ≡ true → true ≡ one_of (typsts (rows_from table k (n - k))) s
+  this-row e = rw (row_next table k n h, e)
 
-  pub next_row : same (row_at table k).typst s ≡ false → row_from (k + 1) (typsts (rows_from table (k + 1) (n - (k + 1)))) s ≡ row_from k (typsts (rows_from table k (n - k))) s
-  next_row e = rw (row_next table k n h, row_from, e)
+  pub next_row : same (row_at table k).typst s ≡ false → one_of (typsts (rows_from table (k + 1) (n - (k + 1)))) s ≡ one_of (typsts (rows_from table k (n - k))) s
+  next_row e = rw (row_next table k n h, e)
 
-pub no_row : (table s : List ℕ) (k n : ℕ) → n ≤ k → none ≡ row_from k (typsts (rows_from table k (n - k))) s
+pub no_row : (table s : List ℕ) (k n : ℕ) → n ≤ k → false ≡ one_of (typsts (rows_from table k (n - k))) s
 no_row table s k n h = rw (rows-done table k n h)

@@ -1,14 +1,11 @@
 // Tables of names: rows of one width, each a name as it is typed and its LaTeX. Here is how a row is read, and the table of the Greek
-// names, which the plain check and the MathML writer read too.
+// names, which the plain check reads too.
 ghost use Rattle.std.specs.Prelude.{◌≡◌, true, ◌+◌, ◌<◌, length, get_or};
 ghost use Rattle.spec.specs.Symbols.{same};
 ghost use Rattle.spec.specs.Finish.{one_of};
 ghost use Rattle.spec.specs.Rows.{greek_letters};
 ghost use Rattle.spec.specs.Grammar.{greek_names};
-ghost use Rattle.name_greek.specs.Names.{row_in, greek_row};
 ghost use Rattle.name_greek.specs.Rows.{row_at, fair_row, rows_of, fair_table};
-
-use text_search::Found;
 
 // Bytes of a row, and those before its LaTeX. A row has the length of its name before it and the length of its LaTeX, and zeros
 // behind each up to the width.
@@ -68,36 +65,26 @@ fn is_row(s: &[u8], table: &[u8], k: usize) -> bool
     text_search::is_same(&table[typst..end], s)
 }
 
-// The row of the table in which the text is the name. The table has the Greek rows, LaTeX included.
-fn find_name(s: &[u8], table: &[u8]) -> Found
+// Whether the text is a name of the table, which has the Greek rows, LaTeX included.
+fn is_name(s: &[u8], table: &[u8]) -> bool
     requires table_value { fair_table table.now ≡ true }
     requires table_value_2 { rows_of table.now ≡ greek_letters }
-    ensures { row_in result ≡ greek_row s.now }
+    ensures { result ≡ one_of greek_names s.now }
 {
     let rows = table.len() / ROW;
     let mut k = 0;
     while k < rows {
         if is_row(s, table, k) {
-            return Found::At(k);
+            return true;
         }
         k += 1;
     }
-    Found::Nothing
-}
-
-// Which of the thirty names the text is.
-pub fn find_greek(s: &[u8]) -> Found
-    ensures { row_in result ≡ greek_row s.now }
-{
-    find_name(s, &GREEK)
+    false
 }
 
 // Whether the text is one of the thirty names.
 pub fn is_greek(s: &[u8]) -> bool
     ensures { result ≡ one_of greek_names s.now }
 {
-    let Found::At(_) = find_greek(s) else {
-        return false;
-    };
-    true
+    is_name(s, &GREEK)
 }

@@ -1,9 +1,7 @@
 -- The definition of the check and the grammar agree. Assumes nothing.
 --     reads-back, one-count     the reader gives back what a proper sum has, so sums with one text have one atom count
 --     count-iff, none-iff       it counts the atoms of just the plain texts
---     tree_of                   so every text has a tree, or it has none
---     checked, counts-..        and an equation is all that the code has to show, on each way that it takes
---     marked_by                 and the marks are those of the tree
+--     checked, counts-..        so an equation is all that the code has to show, on each way that it takes
 use Rattle.std.specs.Prelude.{◌≡◌, refl, Bool, true, false, cond, ◌↔◌, List, [], ◌++◌, ℕ, ◌≤◌, ◌<◌, eqb, ltb, length}
 use Rattle.std.proofs.Common.{sym, ap, ◌∙◌, subst, append-nil, arith}
 use Rattle.std.proofs.Math.Option.{Option, none, some}
@@ -11,23 +9,19 @@ use Rattle.std.proofs.Math.Seq.{drop-length}
 use borrow.Author.Tests.{eqb-true, eq-eqb, ne_eqb, lt-ltb, le-ltb, ltb-false}
 use Rattle.spec.specs.Pipeline.{most_formula}
 use Rattle.spec.specs.Grammar.{Sum, Plain, proper, text, atoms}
-use Rattle.spec.specs.Mathml.{TreeOf}
-use Rattle.plain_marks.specs.Marks.{sum_marks}
 use Rattle.plain_parts.specs.declared.PlainPart.{PlainPart}
 use Rattle.plain_parts.specs.declared.Read.{Read}
 use Rattle.plain_parts.specs.declared.Read.TheVariants.{Found, Nothing}
-use Rattle.plain_readers.specs.Readers.{Answers, read_sum, sum_reader}
-use Rattle.plain_readers.specs.Trees.{sum_part}
-use Rattle.plain_readers.specs.Ends.{ends-text}
-use Rattle.plain_readers.specs.Marking.{zeros}
-use Rattle.plain_readers.specs.Complete.{complete-sum}
-use Rattle.plain_readers.specs.Sound.{WhenFound, OfSum, sound-sum}
 use Rattle.plain_check.specs.declared.PlainAnswer.{PlainAnswer}
-use Rattle.plain_check.specs.Check.{answer_count, PlainOf, fuel, wholly, plain_count, Checked, MarkedBy}
+use Rattle.plain_check.specs.Readers.{Answers, read_sum}
+use Rattle.plain_check.specs.Trees.{sum_part}
+use Rattle.plain_check.specs.Complete.{complete-sum, ends-text}
+use Rattle.plain_check.specs.Sound.{WhenFound, OfSum, sound-sum}
+use Rattle.plain_check.specs.Check.{answer_count, PlainOf, fuel, wholly, plain_count, Checked}
 
 -- ---- the reader gives back what a proper sum has
 pub reads-back : (t : Sum) → proper t ≡ true → read_sum (fuel (text t)) (text t) ≡ Found (sum_part t)
-reads-back t h = let read = rw append-nil at ((complete-sum t h [] ends-text).reads [] []).exact in sym (read (fuel (text t)) (omega arith))
+reads-back t h = let read = rw append-nil at (complete-sum t h [] ends-text).exact in sym (read (fuel (text t)) (omega arith))
 
 pub one-count : (s t : Sum) → proper s ≡ true → proper t ≡ true → text s ≡ text t → atoms s ≡ atoms t
 one-count s t g h e =
@@ -82,19 +76,7 @@ none-iff s = (λ e p. none≢some (sym e ∙ complete s (atoms p.sum) (record { 
     missing none e h = e
     missing (some n) e h = absurd (h (sound s n e).plain)
 
--- ---- so every text has a tree, or it has none
-pub record TreeFound (s : List ℕ) : Type 0 where
-  pub tree : Option Sum
-  pub is-tree : TreeOf s tree
-
-pub tree_of : (s : List ℕ) → TreeFound s
-tree_of s = by (plain_count s) refl
-  where
-    by : (o : Option ℕ) → plain_count s ≡ o → TreeFound s
-    by none e = record { tree = none; is-tree = (none-iff s).0 e }
-    by (some n) e = let p = (sound s n e).plain in record { tree = some p.sum; is-tree = (p.is-proper, p.reads) }
-
--- ---- and an equation is all that the code has to show, on each way that it takes
+-- ---- so an equation is all that the code has to show, on each way that it takes
 pub checked : {s : List ℕ} {r : PlainAnswer} → answer_count r ≡ plain_count s → Checked s r
 checked {s} {r} e = record { computed = e; yes = λ n. rw e (count-iff s n); no = rw e (none-iff s) }
 
@@ -102,11 +84,11 @@ pub counts-long : (s : List ℕ) → most_formula < length s → none ≡ plain_
 unfolding plain_count
 counts-long s h = rw (lt-ltb most_formula (length s) h)
 
-pub counts-nothing : {s ms ms' : List ℕ} → Answers sum_reader s 0 ms Nothing ms' → length s ≤ most_formula → none ≡ plain_count s
+pub counts-nothing : {s : List ℕ} → Answers read_sum 4 s Nothing → length s ≤ most_formula → none ≡ plain_count s
 unfolding plain_count
 counts-nothing {s} a h = rw (le-ltb most_formula (length s) h, ← a.exact (fuel s) (omega arith))
 
-module _ {s ms ms' : List ℕ} {p : PlainPart} (a : Answers sum_reader s 0 ms (Found p) ms') (h : length s ≤ most_formula) where
+module _ {s : List ℕ} {p : PlainPart} (a : Answers read_sum 4 s (Found p)) (h : length s ≤ most_formula) where
   pub counts_whole : p.used ≡ length s → some p.atoms ≡ plain_count s
   unfolding plain_count
   counts_whole e = rw (le-ltb most_formula (length s) h, ← a.exact (fuel s) (omega arith), eq-eqb p.used (length s) e)
@@ -114,18 +96,3 @@ module _ {s ms ms' : List ℕ} {p : PlainPart} (a : Answers sum_reader s 0 ms (F
   pub counts-part : (p.used ≡ length s → ⊥) → none ≡ plain_count s
   unfolding plain_count
   counts-part e = rw (le-ltb most_formula (length s) h, ← a.exact (fuel s) (omega arith), ne_eqb p.used (length s) e)
-
--- ---- the marks
-marked-by-tree : (t : Sum) → proper t ≡ true → (behind : List ℕ) {ms : List ℕ} {r : Read} → Answers sum_reader (text t) 0 (zeros (text t) ++ behind) r ms → ms ≡ sum_marks t ++ behind
-marked-by-tree t h behind a =
-    let whole = rw append-nil at ((complete-sum t h [] ends-text).reads [] behind) in
-    a.marks (fuel (text t)) (omega arith) ∙ sym (whole.marks (fuel (text t)) (omega arith))
-
-pub marked_by : {s ms ms' : List ℕ} {r : Read} → Answers sum_reader s 0 ms r ms' → MarkedBy s ms ms'
-marked_by {s} {ms} {ms'} {r} a =
-    record {
-      marks = λ t h e short behind unmarked. marked-by-tree t h behind (subst (λ x. Answers sum_reader x 0 (zeros x ++ behind) r ms') (sym e) (subst (λ l. Answers sum_reader s 0 l r ms') unmarked a));
-    }
-
-pub unmarked-long : {s ms : List ℕ} → most_formula < length s → MarkedBy s ms ms
-unmarked-long h = record { marks = λ t g e short behind unmarked. absurd (omega arith) }

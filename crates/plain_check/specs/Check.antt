@@ -3,18 +3,15 @@
 --     PlainOf         a plain text of n atoms, by the grammar
 --     plain_count      the check as a definition, which computes
 --     Checked         the contract: the answer is that of the definition, and that of the grammar
---     MarkedBy        a plain text is marked by its tree
-use Rattle.std.specs.Prelude.{◌≡◌, true, cond, ◌↔◌, List, ◌++◌, ℕ, ◌+◌, ◌*◌, ◌≤◌, eqb, ltb, length}
+use Rattle.std.specs.Prelude.{◌≡◌, cond, ◌↔◌, List, ℕ, ◌+◌, ◌*◌, eqb, ltb, length}
 use Rattle.std.proofs.Math.Option.{Option, none, some}
 use Rattle.spec.specs.Pipeline.{most_formula}
-use Rattle.spec.specs.Grammar.{Sum, Plain, proper, text, atoms}
-use Rattle.plain_marks.specs.Marks.{sum_marks}
+use Rattle.spec.specs.Grammar.{Plain, atoms}
 use Rattle.plain_parts.specs.declared.Read.{Read}
 use Rattle.plain_parts.specs.declared.Read.TheVariants.{Found, Nothing}
 use Rattle.plain_check.specs.declared.PlainAnswer.{PlainAnswer}
 use Rattle.plain_check.specs.declared.PlainAnswer.TheVariants.{Yes, No}
-use Rattle.plain_readers.specs.Readers.{read_sum}
-use Rattle.plain_readers.specs.Marking.{zeros}
+use Rattle.plain_check.specs.Readers.{read_sum}
 
 abbrev pub answer_count : PlainAnswer → Option ℕ
 answer_count (Yes n) = some n
@@ -42,7 +39,3 @@ pub record Checked (s : List ℕ) (r : PlainAnswer) : Type 0 where
   pub computed : answer_count r ≡ plain_count s
   pub yes : (n : ℕ) → (answer_count r ≡ some n) ↔ PlainOf s n
   pub no : (answer_count r ≡ none) ↔ (Plain s → ⊥)
-
--- where there were no marks on the text, those of its tree are there, and what lies behind them is as it was
-pub record MarkedBy (s ms ms' : List ℕ) : Type 0 where
-  pub marks : (t : Sum) → proper t ≡ true → text t ≡ s → length s ≤ most_formula → (behind : List ℕ) → ms ≡ zeros s ++ behind → ms' ≡ sum_marks t ++ behind

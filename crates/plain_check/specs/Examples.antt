@@ -3,7 +3,7 @@ use Rattle.std.specs.Prelude.{◌≡◌, refl, List, [], ◌∷◌, map, ℕ}
 use Rattle.std.proofs.Math.Option.{Option, none, some}
 use Prim.Native.String.{String}
 use Rattle.spec.specs.Symbols.{bytes}
-use Rattle.plain_readers.specs.Readers.{read_sum}
+use Rattle.plain_check.specs.Readers.{read_sum}
 use Rattle.plain_check.specs.Check.{plain_count}
 
 record Example : Type 0 where

@@ -1,6 +1,10 @@
-// The plain check: is a text one sum by document 01's rules, and of how many atoms? It is read by the readers of `plain_readers`, which can
-// mark it by its tree.
-ghost use Rattle.plain_check.specs.Check.{Checked, MarkedBy};
+// The plain check: is a text one sum by document 01's rules, and of how many atoms?
+//
+// A reader for each rule calls those of its parts, each on what is left to read.
+mod readers;
+mod tokens;
+
+ghost use Rattle.plain_check.specs.Check.{Checked};
 
 use plain_parts::Read;
 
@@ -15,19 +19,10 @@ pub enum PlainAnswer {
 pub fn plain_check(s: &[u8]) -> PlainAnswer
     ensures { Checked s.now result }
 {
-    let mut none = [0; 0];
-    check_and_mark(s, &mut none)
-}
-
-// The same, and marks on a plain text.
-pub fn check_and_mark(s: &[u8], marks: &mut [u8]) -> PlainAnswer
-    ensures checked { Checked s.now result }
-    ensures marked_by { MarkedBy s.now marks.old marks.new }
-{
     if text::MOST_FORMULA < s.len() {
         return PlainAnswer::No;
     }
-    let Read::Found(p) = plain_readers::sum(s, marks, 0) else {
+    let Read::Found(p) = readers::sum(s) else {
         return PlainAnswer::No;
     };
     if p.used == s.len() {

@@ -1,14 +1,14 @@
 -- The rule that every tree's text keeps before sizing.
-use Rattle.std.specs.Prelude.{◌≡◌, refl, Bool, true, false, not, ◌&&◌, cond, List, [], ◌∷◌, ◌++◌, ℕ, pred, ltb, length}
-use Rattle.std.proofs.Common.{ap, ◌∙◌, append-nil, append_assoc, arith, ltb-true, le-ltb}
+use Rattle.std.specs.Prelude.{◌≡◌, refl, Bool, true, false, not, ◌&&◌, cond, List, [], ◌∷◌, ◌++◌, ℕ, pred, leb, ltb, length}
+use Rattle.std.proofs.Common.{ap, ◌∙◌, append-nil, append_assoc, arith, ltb-true, leb-true, le-ltb}
 use Rattle.std.proofs.lemmas.Bool.{false≢true}
 use Prim.Native.Char.{code}
-use Rattle.spec.specs.Symbols.{bytes, letter, digit, alnum, script_sign, all}
+use Rattle.spec.specs.Symbols.{bytes, between, letter, digit, alnum, script_sign, all}
 use Rattle.spec.specs.Fractions.{frac}
 use Rattle.spec.specs.Grammar.{Atom, variable, greek, number, greek_names, greek_name}
-use Rattle.spec.specs.Laws.Booleans.{and_left, and_right, and_both, or_right}
+use Rattle.spec.specs.Laws.Booleans.{and_left, and_right, and_both, or_right, untrue, or_split}
 use Rattle.spec.specs.Laws.Names.{all_rows, row-rule}
-use Rattle.spec.specs.Laws.Symbols.{digit-not-letter}
+use Rattle.spec.specs.Laws.Symbols.{digit-range}
 use Rattle.plain_printing.specs.Tree.{Tree, TreeScript, Style, Join, beside, plus, minus, atom, fraction, group, row, bare, symbol, inner, atom_writing, join_text, operand, slashed, lone, typst_style, marked_style, unstacked, unsized, write, write_script, script_brackets, either_way, text}
 use Rattle.plain_printing.specs.Classes.{apart}
 use Rattle.plain_printing.specs.Local.{chain}
@@ -16,6 +16,14 @@ use Rattle.plain_printing.specs.Rule.{rule, Before, nothing, space, slash, paren
 
 alnum-closed : (x : ℕ) → alnum x ≡ true → ends_factor x ≡ true
 alnum-closed x h = rw h
+
+pub digit-not-letter : (x : ℕ) → digit x ≡ true → letter x ≡ false
+digit-not-letter x h =
+    let high = (digit-range x h).1 in
+    untrue (letter x)
+    (λ t. or_split (between (code "a") (code "z") x) (between (code "A") (code "Z") x) t
+    (λ e. let low = leb-true (code "a") x (and_left (leb (code "a") x) (leb x (code "z")) e) in omega arith)
+    (λ e. let low = leb-true (code "A") x (and_left (leb (code "A") x) (leb x (code "Z")) e) in omega arith))
 
 digit-unmarked : (x : ℕ) → digit x ≡ true → script_sign x ≡ false
 digit-unmarked x h = rw (apart digit x (code "_") h refl, apart digit x (code "^") h refl)

@@ -1,12 +1,12 @@
-// Every text of up to 5 bytes over eleven symbols goes to the plain check, and each plain one to the entry and to the writer of MathML. The program
-// writes the plain ones, each with its atoms, its LaTeX and its MathML, and counts how many different LaTeX texts there are. `oracle/run short` makes the same list from the grammar.
+// Every text of up to 5 bytes over eleven symbols goes to the plain check, and each plain one to the entry. The program writes the plain ones, each
+// with its atoms and its LaTeX, and counts how many different LaTeX texts there are. `oracle/run short` makes the same list from the grammar.
 mod printed;
 mod spelling;
 
 ghost use Rattle.std.specs.Prelude.{◌≡◌, ◌<◌, length};
 ghost use Rattle.plain_short.specs.Printed.{PrintedRoom};
 
-use printed::{print, print_mathml};
+use printed::print;
 use spelling::spell;
 
 // The number of texts of up to 5 symbols.
@@ -66,9 +66,6 @@ fn try_text(number: usize, printed: &mut [u8], tally: Tally) -> Tally
     io::print_decimal(1, atoms as u64);
     io::write_all(1, b"\t");
     let used = print(formula, printed, tally.used);
-    io::write_all(1, b"\t");
-    print_mathml(formula);
-    io::write_all(1, b"\n");
     Tally {
         plain: std::num::wrapping_add_u64(tally.plain, 1),
         different: std::num::wrapping_add_u64(tally.different, (tally.used < used) as u64),

@@ -16,22 +16,11 @@ pub fn print(formula: &[u8], printed: &mut [u8], used: usize) -> usize
     let mut line = [b'\n'; 64];
     let end = convert(formula, &mut line);
     if end < 2 {
-        io::write_all(1, b"refused");
+        io::write_all(1, b"refused\n");
         return used;
     }
-    let last = end - 1;
-    io::write_all(1, &line[1..last]);
+    io::write_all(1, &line[1..end]);
     keep(printed, used, &line[..end])
-}
-
-// Writes the formula's MathML.
-pub fn print_mathml(formula: &[u8]) {
-    let mut output = [0; 128];
-    let Answer::Done(n) = mathml::plain_to_mathml(formula, &mut output) else {
-        io::write_all(1, b"refused");
-        return;
-    };
-    io::write_all(1, &output[..n]);
 }
 
 // Puts the formula's LaTeX into the line, behind the first of its newlines. Answers the bytes up to the next newline, or 0 where the call is refused.

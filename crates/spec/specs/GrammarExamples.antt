@@ -6,10 +6,10 @@ use Rattle.spec.specs.Finish.{all_tall}
 use Rattle.spec.specs.Grammar.{Atom, variable, greek, number, Sum, product, plus, minus, factor, beside, Factor, scripted, fraction, group, atom, enclosed, bare, symbol, inner, greek_name, proper, text, latex, atoms}
 
 -- ---- parts
-abbrev pub a : Atom
+abbrev a : Atom
 a = variable (code "a") refl
 
-abbrev pub b : Atom
+abbrev b : Atom
 b = variable (code "b") refl
 
 abbrev c : Atom
@@ -18,13 +18,13 @@ c = variable (code "c") refl
 abbrev alpha : Atom
 alpha = greek 14 refl
 
-abbrev pub one : Atom
+abbrev one : Atom
 one = number (bytes "1") refl refl
 
-abbrev pub unscripted : Atom → Factor
+abbrev unscripted : Atom → Factor
 unscripted x = scripted x bare bare
 
-abbrev pub alone : Factor → Sum
+abbrev alone : Factor → Sum
 alone f = product (factor f)
 
 abbrev over : Atom → Atom → Factor

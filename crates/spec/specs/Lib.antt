@@ -20,8 +20,6 @@ pub mod WordAt
 pub mod Program
 pub mod Grammar
 pub mod GrammarExamples
-pub mod Mathml
-pub mod MathmlExamples
 pub mod Starred
 pub mod Laws
 pub mod BracesExamples

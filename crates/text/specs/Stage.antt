@@ -1,5 +1,5 @@
 -- How far a formula has come, and what every stage promises.
---     number      the number of a refusal: document 01's, and document 02's 12, 15 and 16. `number-between`: from 1 to 16
+--     number      the number of a refusal: document 01's, and document 02's 15 and 16. `number-between`: from 1 to 16
 --     shown       what a progress means: the text in its place of the buffer, or the refusal
 --     Ready       what a stage asks: the work buffer is large enough, and the text well placed
 --     Answered    what a stage ensures: an equation with its definition. `Staged`: and what lies beyond the two regions is as it was
@@ -25,7 +25,6 @@ use Rattle.text.specs.declared.Refusal.TheVariants.{
   BareDelimiter,
   BarredSolidus,
   ShortOutput,
-  NotPlain,
   TallField,
   NoWord,
 }
@@ -43,7 +42,6 @@ number Unsettled = 7
 number BareDelimiter = 8
 number BarredSolidus = 9
 number ShortOutput = 10
-number NotPlain = 12
 number TallField = 15
 number NoWord = 16
 
@@ -58,7 +56,6 @@ number-between Unsettled = (omega arith, omega arith)
 number-between BareDelimiter = (omega arith, omega arith)
 number-between BarredSolidus = (omega arith, omega arith)
 number-between ShortOutput = (omega arith, omega arith)
-number-between NotPlain = (omega arith, omega arith)
 number-between TallField = (omega arith, omega arith)
 number-between NoWord = (omega arith, omega arith)
 

@@ -3,10 +3,9 @@
 --     Appended          what a writing function ensures: its count, and its buffer
 --     Regions           what a stage asks of the buffer
 -- Assumes nothing.
-use Rattle.std.specs.Prelude.{◌≡◌, refl, cond, List, [], ◌∷◌, ◌++◌, ◌⊎◌, ℕ, zero, suc, ◌+◌, ◌-◌, ◌*◌, ◌≤◌, ◌<◌, ◌^◌, ltb, length, get_or, set, take, drop}
-use Rattle.std.proofs.Common.{sym, ap, ◌∙◌, inl, inr, ⊎_elim, zero-add, add-zero, suc-add, add-suc, not-suc-le-zero, add-one, arith, length-set, length-append, length-take, length-drop, take-suc, get_or-set_same, get_or-set_other, get_or-append-add, get_or-drop, ext_get_or, lt-ltb, le-ltb}
+use Rattle.std.specs.Prelude.{◌≡◌, refl, cond, List, [], ◌∷◌, ◌++◌, ◌⊎◌, ℕ, zero, suc, ◌+◌, ◌*◌, ◌≤◌, ◌<◌, ◌^◌, ltb, length, get_or, set, take, drop}
+use Rattle.std.proofs.Common.{sym, ap, ◌∙◌, inl, inr, ⊎_elim, add-zero, suc-add, add-suc, not-suc-le-zero, add-one, arith, length-set, length-append, length-take, length-drop, take-suc, get_or-set_same, get_or-set_other, ext_get_or, lt-ltb, le-ltb}
 use Rattle.std.proofs.Math.Decide.{dec_lt}
-use Rattle.std.proofs.Math.ListN.{get_or-append}
 use Rattle.text_search.specs.Half.{half_work}
 use Rattle.text_symbols.specs.Parts.{part, get_d_part}
 
@@ -118,7 +117,7 @@ puts-at (b ∷ bs) w to cap count (suc k) fits more below =
     (puts-at bs (stored w to cap count b) to cap (suc count) k (rw (length-stored w to cap count b) fits) (omega arith) (omega arith))
 
 -- past the capacity nothing is stored
-pub puts-past : (bs w : List ℕ) (to cap count : ℕ) → cap ≤ count → puts w to cap count bs ≡ w
+puts-past : (bs w : List ℕ) (to cap count : ℕ) → cap ≤ count → puts w to cap count bs ≡ w
 unfolding puts
 puts-past [] w to cap count h = refl
 puts-past (b ∷ bs) w to cap count h = ap (λ v. puts v to cap (suc count) bs) (stored-out w to cap count b h) ∙ puts-past bs w to cap (suc count) (omega arith)
@@ -179,17 +178,3 @@ part_apart w w' to cap long kept from n o =
 pub appended-part : {w w' : List ℕ} {to cap count count' : ℕ} {bs : List ℕ} → Appended w w' to cap count count' bs → (from n : ℕ) → Apart from n to cap → part from n w' ≡ part from n w
 appended-part {w} {w'} {to} {cap} {count} {bs = bs} a =
     part_apart w w' to cap (appended-long a) (λ j o. ap (λ v. get_or v j 0) a.work ∙ puts-outside bs w to cap count j o)
-
--- ---- a list at the start of the buffer, where the capacity is its length
-pub appended-start : (bs w : List ℕ) → length bs ≤ length w → puts w 0 (length bs) 0 bs ≡ bs ++ drop (length bs) w
-appended-start bs w fits = ext_get_or 0 (puts w 0 (length bs) 0 bs) (bs ++ drop (length bs) w) (length-puts bs w 0 (length bs) 0 ∙ long) (λ i h. at i (dec_lt i (length bs)))
-  where
-    long : length w ≡ length (bs ++ drop (length bs) w)
-    long = rw (length-append bs (drop (length bs) w), length-drop (length bs) w) (omega arith)
-
-    at : (i : ℕ) → Dec (i < length bs) → get_or (puts w 0 (length bs) 0 bs) i 0 ≡ get_or (bs ++ drop (length bs) w) i 0
-    at i (yes h) = (rw (zero-add, zero-add) at (puts-at bs w 0 (length bs) 0 i (omega arith) h (omega arith))) ∙ sym (get_or-append bs (drop (length bs) w) 0 i h)
-    at i (no h) =
-        let past : length bs + (i - length bs) ≡ i = omega arith in
-        puts-outside bs w 0 (length bs) 0 i (inr (omega arith))
-        ∙ sym (ap (λ j. get_or (bs ++ drop (length bs) w) j 0) (sym past) ∙ get_or-append-add bs (drop (length bs) w) (i - length bs) 0 ∙ get_or-drop (length bs) w (i - length bs) 0 ∙ ap (λ j. get_or w j 0) past)

@@ -19,8 +19,8 @@ pub const ALL_TALL: u32 = 31;
 // The most symbols of a stage's finished text, and so the room of each of the two regions that texts lie in.
 pub const CAP: usize = 8_192;
 
-// Why a call is refused, by the trade's words. `LostBlock` is kept for its number: no call gives it. `NotPlain` is met by
-// the writer of MathML alone, and `NoWord` by the word under the pointer.
+// Why a call is refused, by the trade's words. `LostBlock` is kept for its number: no call gives it. `NoWord` is met by the word under
+// the pointer alone.
 #[derive(Drop)]
 pub enum Refusal {
     ForeignByte,
@@ -33,12 +33,11 @@ pub enum Refusal {
     BareDelimiter,
     BarredSolidus,
     ShortOutput,
-    NotPlain,
     TallField,
     NoWord,
 }
 
-// The number of a refusal: document 01's, and document 02's 12, 15 and 16.
+// The number of a refusal: document 01's, and document 02's 15 and 16.
 pub fn number(why: Refusal) -> u64
     ensures { result ≡ numbered why }
 {
@@ -53,7 +52,6 @@ pub fn number(why: Refusal) -> u64
         Refusal::BareDelimiter => 8,
         Refusal::BarredSolidus => 9,
         Refusal::ShortOutput => 10,
-        Refusal::NotPlain => 12,
         Refusal::TallField => 15,
         Refusal::NoWord => 16,
     }

@@ -1,5 +1,5 @@
-//! Converts some correction formulas of a calibration bench, with definitions, one of them with small brackets too, writes some as MathML,
-//! and shows what the words of one stand for. Built and run by embed/run-rust.
+//! Converts some correction formulas of a calibration bench, with definitions, one of them with small brackets too, and shows what the
+//! words of one stand for. Built and run by embed/run-rust.
 
 use jistranu::{Refusal, Tall};
 use std::collections::HashMap;
@@ -23,10 +23,6 @@ fn main() {
     for field in [Tall::ALL.bits(), Tall::SQRT.bits(), 32] {
         convert_under("(U/U_0) [sqrt(R)]", &definitions, field);
     }
-    for formula in ["F_1 + (F_2 - 1)/G", "2 pi f", "1/2/pi"] {
-        println!("{formula} in MathML");
-        print(jistranu::plain_to_mathml(formula));
-    }
     let table = jistranu::table(&definitions);
     for place in [0, 4, 5, 11] {
         show_word("gain/2 + x_gain", &table, place);
@@ -48,7 +44,7 @@ fn convert_under(formula: &str, definitions: &HashMap<String, String>, field: u8
 
 fn print(answer: Result<String, Refusal>) {
     match answer {
-        Ok(text) => println!("    {text}"),
+        Ok(latex) => println!("    {latex}"),
         Err(refusal) => println!("    refused {}", refusal.number()),
     }
 }

@@ -2,7 +2,7 @@
 //!
 //! `math_conv::typst_to_latex(text, &definitions, display)` becomes
 //! `jistranu::typst_to_latex(text, &definitions, display)?`. Which commands enlarge the delimiters around them can be chosen:
-//! [`typst_to_latex_sized`]. Plain formulas can be had as MathML too: [`plain_to_mathml`].
+//! [`typst_to_latex_sized`].
 
 pub mod raw;
 mod refusal;
@@ -19,7 +19,7 @@ use std::ops::RangeInclusive;
 pub const FORMULA_BYTES: usize = 4_096;
 /// The least work buffer.
 pub const WORK_BYTES: usize = 32_768;
-/// No LaTeX is longer.
+/// No answer is longer.
 pub const OUTPUT_BYTES: usize = 8_192;
 
 /// How a table holds definitions: what it begins with, the bytes of a record's header, the lengths that a header has room for.
@@ -118,42 +118,6 @@ pub fn plain_check(formula: &[u8]) -> Option<usize> {
     // SAFETY: as above.
     let plain = unsafe { raw::jistranu_plain_check(formula.as_ptr(), formula.len(), &mut atoms) };
     plain.then_some(atoms)
-}
-
-/// The MathML of a plain formula, or why there is none: `LongFormula`, `ForeignByte` or `NotPlain`, the first that holds. It is one
-/// `mrow` of ASCII text; a page puts `<math>` around it. Two different plain formulas never have the same MathML.
-///
-/// Plain formulas are written also where a conversion refuses them, for the depth of their fractions or the length of their LaTeX.
-pub fn plain_to_mathml(formula: &str) -> Result<String, Refusal> {
-    // A pair of parentheses takes 33 bytes, and nothing takes more for each byte: mostly this is enough.
-    let mut output = vec![0; 16 * formula.len().min(FORMULA_BYTES) + 16];
-    loop {
-        match write_mathml(formula.as_bytes(), &mut output) {
-            Err(Refusal::ShortOutput) => {}
-            answer => return answer.map(|mathml| String::from_utf8(mathml.to_vec()).expect("MathML is ASCII text")),
-        }
-        output.resize(2 * output.len(), 0);
-    }
-}
-
-/// The library's own call: a lent buffer. The MathML is the start of `output`, of which no other byte is written. `ShortOutput` is
-/// the last of the refusals.
-pub fn write_mathml<'a>(formula: &[u8], output: &'a mut [u8]) -> Result<&'a [u8], Refusal> {
-    let mut count = 0;
-    // SAFETY: as above.
-    let answer = unsafe {
-        raw::jistranu_plain_to_mathml(
-            formula.as_ptr(),
-            formula.len(),
-            output.as_mut_ptr(),
-            output.len(),
-            &mut count,
-        )
-    };
-    match Refusal::of_number(answer) {
-        None => Ok(&output[..count]),
-        Some(refusal) => Err(refusal),
-    }
 }
 
 /// What a word of a formula stands for.

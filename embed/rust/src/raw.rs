@@ -25,18 +25,6 @@ extern "C" {
     /// As above.
     pub fn jistranu_plain_check(formula: *const u8, formula_len: usize, atoms: *mut usize) -> bool;
 
-    /// 0, and `count` bytes of MathML at the start of `output`; or the number of a refusal.
-    ///
-    /// # Safety
-    /// As above.
-    pub fn jistranu_plain_to_mathml(
-        formula: *const u8,
-        formula_len: usize,
-        output: *mut u8,
-        output_len: usize,
-        count: *mut usize,
-    ) -> u64;
-
     /// 0, and `length` bytes from `start` of the table where `defined`, else of the formula; or the number of a refusal.
     ///
     /// # Safety

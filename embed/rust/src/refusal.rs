@@ -4,10 +4,8 @@ use std::fmt;
 
 /// The refusals, with their numbers. Where several hold, a conversion gives `NarrowWork` first, then `TallField`, `LongFormula`,
 /// `ForeignByte` and `FaultyTable`, then the first of `Overgrown` to `BarredSolidus` that is met on the way, and `ShortOutput` last.
-/// `LostBlock` is kept, so that the others keep their numbers; no call is refused by it.
-/// [`plain_to_mathml`](crate::plain_to_mathml) gives `LongFormula`, `ForeignByte` and `NotPlain` in this order, the last of which no other
-/// call gives. [`word_at`](crate::word_at) gives `LongFormula`, `ForeignByte` and `FaultyTable` in this order, and `NoWord` last, which no
-/// other call gives.
+/// `LostBlock` is kept, so that the others keep their numbers; no call is refused by it. [`word_at`](crate::word_at) gives
+/// `LongFormula`, `ForeignByte` and `FaultyTable` in this order, and `NoWord` last, which no other call gives.
 /// `TallField` is given for a number that makes no [`Tall`](crate::Tall); a conversion with a `Tall` does not give it.
 #[derive(Clone, Copy, Debug, PartialEq, Eq, Hash)]
 pub enum Refusal {
@@ -21,13 +19,12 @@ pub enum Refusal {
     BareDelimiter = 8,
     BarredSolidus = 9,
     ShortOutput = 10,
-    NotPlain = 12,
     TallField = 15,
     NoWord = 16,
 }
 
 /// Each with its text for a user.
-const ALL: [(Refusal, &str); 13] = [
+const ALL: [(Refusal, &str); 12] = [
     (Refusal::ForeignByte, "the formula holds something else than ASCII text, tabs and newlines"),
     (Refusal::LongFormula, "the formula has more than 4,096 bytes"),
     (
@@ -41,17 +38,12 @@ const ALL: [(Refusal, &str); 13] = [
     (Refusal::Unsettled, "more than 64 fractions stand one within the other, or in a chain of slashes"),
     (Refusal::BareDelimiter, "lr encloses a delimiter and nothing else, as in lr(|)"),
     (Refusal::BarredSolidus, "a denominator within bars holds an escaped slash, as in a/abs(b \\/ c)"),
-    (Refusal::ShortOutput, "the LaTeX or MathML is longer than the output buffer"),
-    (
-        Refusal::NotPlain,
-        "the formula is not plain: only sums, products, fractions and scripts of single letters, Greek names and numbers are, \
-         in one spelling each",
-    ),
+    (Refusal::ShortOutput, "the LaTeX is longer than the output buffer"),
     (Refusal::TallField, "the tall field is above 31"),
     (Refusal::NoWord, "the place is not on a letter or digit of the formula"),
 ];
 
-/// The row of a number from 1 to 10, of 12, of 15 or of 16.
+/// The row of a number from 1 to 10, of 15 or of 16.
 fn row(number: u64) -> Option<(Refusal, &'static str)> {
     ALL.into_iter().find(|row| u64::from(row.0.number()) == number)
 }
@@ -61,7 +53,7 @@ impl Refusal {
         self as u8
     }
 
-    /// The refusal of a number from 1 to 10, of 12, of 15 or of 16.
+    /// The refusal of a number from 1 to 10, of 15 or of 16.
     pub fn of_number(number: u64) -> Option<Refusal> {
         row(number).map(|row| row.0)
     }
@@ -82,7 +74,7 @@ mod tests {
 
     #[test]
     fn a_refusal_has_one_number_and_one_row() {
-        assert_eq!(ALL.map(|row| row.0.number()), [1, 2, 3, 4, 5, 6, 7, 8, 9, 10, 12, 15, 16]);
+        assert_eq!(ALL.map(|row| row.0.number()), [1, 2, 3, 4, 5, 6, 7, 8, 9, 10, 15, 16]);
         for (refusal, text) in ALL {
             assert_eq!(Refusal::of_number(refusal.number().into()), Some(refusal));
             assert_eq!(refusal.to_string(), text);
@@ -91,7 +83,7 @@ mod tests {
 
     #[test]
     fn other_numbers_are_none() {
-        for number in [0, 11, 13, 14, 17, 256 + 16, u64::MAX] {
+        for number in [0, 11, 12, 13, 14, 17, 256 + 16, u64::MAX] {
             assert_eq!(Refusal::of_number(number), None);
         }
     }

@@ -1,5 +1,5 @@
-//! What the wrapper adds to the library: the table made of a map, the refusals, the buffers of a thread, one that holds the MathML, the
-//! words as slices, the tall commands as a set.
+//! What the wrapper adds to the library: the table made of a map, the refusals, the buffers of a thread, the words as slices, the tall
+//! commands as a set.
 
 use super::*;
 
@@ -234,62 +234,6 @@ fn plain_formulas_have_atoms() {
     assert_eq!(plain_check(&[b'('; FORMULA_BYTES]), None);
     let deep = "(".repeat(2_047) + "a" + &")".repeat(2_047);
     assert_eq!(plain_check(deep.as_bytes()), Some(1));
-}
-
-#[test]
-fn a_plain_formula_has_mathml() {
-    for (formula, items) in [
-        ("1 2", "<mn>1</mn><mn>2</mn>"),
-        ("a - b", "<mi>a</mi><mo>-</mo><mi>b</mi>"),
-        ("Lambda lambda", "<mi>&#923;</mi><mi>&#955;</mi>"),
-        ("x_(1)", "<msub><mi>x</mi><mrow><mn>1</mn></mrow></msub>"),
-        ("x_1", "<msub><mi>x</mi><mn>1</mn></msub>"),
-        ("x^n", "<msup><mi>x</mi><mi>n</mi></msup>"),
-        ("x_1^n", "<msubsup><mi>x</mi><mn>1</mn><mi>n</mi></msubsup>"),
-        ("(a)", "<mrow><mo>(</mo><mi>a</mi><mo>)</mo></mrow>"),
-        ("1/(a b)", "<mfrac><mn>1</mn><mrow><mi>a</mi><mi>b</mi></mrow></mfrac>"),
-        ("((a))/b", "<mfrac><mrow><mrow><mo>(</mo><mi>a</mi><mo>)</mo></mrow></mrow><mi>b</mi></mfrac>"),
-    ] {
-        assert_eq!(plain_to_mathml(formula), Ok(format!("<mrow>{items}</mrow>")));
-    }
-    for formula in ["", "(a)/b", "x_1/2", "a/b/c", "Phi", "a+b", "-a", "x_ab", "a "] {
-        assert_eq!(plain_to_mathml(formula), Err(Refusal::NotPlain));
-    }
-}
-
-#[test]
-fn mathml_is_refused_by_the_first_number_that_holds() {
-    let mut output = [7; 22];
-    let mut refused = |formula: &[u8]| write_mathml(formula, &mut output).unwrap_err().number();
-    assert_eq!(refused("é".repeat(2_049).as_bytes()), 2);
-    assert_eq!(refused("+é".as_bytes()), 1);
-    assert_eq!(refused(b"a+b"), 12);
-    assert_eq!(refused(b"a"), 10);
-    assert_eq!(output, [7; 22]);
-    let mut output = [7; 25];
-    assert_eq!(write_mathml(b"a", &mut output), Ok(&b"<mrow><mi>a</mi></mrow>"[..]));
-    assert_eq!(output[23..], [7; 2]);
-}
-
-#[test]
-fn mathml_is_written_where_a_conversion_is_refused() {
-    let none = HashMap::new();
-    // More than 64 fractions one within another; LaTeX above 8,192 bytes.
-    for (formula, refusal) in [
-        ("a/(".repeat(64) + "a/a" + &")".repeat(64), Refusal::Unsettled),
-        (["a/b"; 1_000].join(" "), Refusal::Overgrown),
-    ] {
-        assert_eq!(typst_to_latex(&formula, &none, true), Err(refusal));
-        assert!(plain_to_mathml(&formula).is_ok());
-    }
-}
-
-#[test]
-fn a_buffer_is_found_for_the_longest_mathml() {
-    // Tests run in threads with 2 MB of stack.
-    let around = |open: &str, core: &str, close: &str| open.repeat(2_047) + core + &close.repeat(2_047);
-    let mathml = around("<mrow><mo>(</mo>", "<mi>&#956;</mi>", "<mo>)</mo></mrow>");
-    assert_eq!(plain_to_mathml(&around("(", "mu", ")")), Ok(format!("<mrow>{mathml}</mrow>")));
 }
 
 /// A name that is applied, one of one byte, and one without LaTeX.

@@ -14,9 +14,9 @@ returns : tie.Need-returns
 returns c =
     let at-start : tie.Start = search in
     let first : tie.After-run-end = search in
-    let s = at-start.args.s.now in let start = first.run_end.result in
+    let s = at-start.args.s.now in let start = first.run-end.result in
     let n = length s - start in
-    trimmed-by first.run_end.ensures (subst (λ l. BackTo l n c.run-start.result (drop_while blank (before l n))) (rest_of start s) c.run-start.ensures)
+    trimmed-by first.run-end.ensures (subst (λ l. BackTo l n c.run-start.result (drop_while blank (before l n))) (rest_of start s) c.run-start.ensures)
 
 pub trimmed-spec : {M : Type 1} → statement M
 trimmed-spec =

@@ -21,14 +21,14 @@ part-is-same-end : tie.Need-slice-bounds-is-same-end
 part-is-same-end c =
     let s = c.before.before.before in
     let w = row_within s.args.table.now s.args.k s.requires in
-    let t = typst-fits s.args.table.now s.args.k s.requires in let e = c.end_of.ensures in
+    let t = typst-fits s.args.table.now s.args.k s.requires in let e = c.end_of_lem.ensures in
     omega arith
 
 returns : tie.Need-returns
 returns c =
     let at-start : tie.Start = search in
     let a = at-start.args in
-    c.is_same.ensures ∙ ap (λ name. same name a.s.now) (text-shown a.table.now (a.k * 36) c.before.before.end_of.ensures)
+    c.is_same.ensures ∙ ap (λ name. same name a.s.now) (text-shown a.table.now (a.k * 36) c.before.before.end_of_lem.ensures)
 
 pub is-row-spec : {M : Type 1} → statement M
 is-row-spec =

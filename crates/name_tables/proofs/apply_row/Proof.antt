@@ -31,7 +31,7 @@ part-bounds-of-end : tie.Need-slice-bounds-bounds-of-end
 part-bounds-of-end c =
     let at-start : tie.Start = search in
     let w = row_within at-start.args.table.now at-start.args.k at-start.pre.1.1 in
-    let t = typst-fits at-start.args.table.now at-start.args.k at-start.pre.1.1 in let e = c.before.end_of.ensures in
+    let t = typst-fits at-start.args.table.now at-start.args.k at-start.pre.1.1 in let e = c.before.end_of_lem.ensures in
     omega arith
 
 part-apply-end : tie.Need-slice-bounds-apply-end
@@ -39,7 +39,7 @@ part-apply-end c =
     let at_end_of : tie.After-end-of = search in
     let at-start : tie.Start = search in
     let w = row_within at-start.args.table.now at-start.args.k at-start.pre.1.1 in
-    let t = typst-fits at-start.args.table.now at-start.args.k at-start.pre.1.1 in let e = at_end_of.end_of.ensures in
+    let t = typst-fits at-start.args.table.now at-start.args.k at-start.pre.1.1 in let e = at_end_of.end_of_lem.ensures in
     omega arith
 
 part-apply-end-2 : tie.Need-slice-bounds-apply-end-2
@@ -56,7 +56,7 @@ apply-requires c κs =
     let at_end_of : tie.After-end-of = search in
     let at-start : tie.Start = search in
     let table = at-start.args.table.now in let k = at-start.args.k in
-    let typst = text-shown table (k * 36) at_end_of.end_of.ensures in
+    let typst = text-shown table (k * 36) at_end_of.end_of_lem.ensures in
     let latex = text-shown table (k * 36 + 16) at-end-of2.end-of2.ensures in
     (at-start.pre.0, (at-start.pre.1.0, subst₂ EntryTextsFit (sym typst) (sym latex) (row-fair table k at-start.pre.1.1)))
 
@@ -67,7 +67,7 @@ returns c =
     let at_end_of : tie.After-end-of = search in
     let at-start : tie.Start = search in
     let table = at-start.args.table.now in let k = at-start.args.k in
-    let typst = text-shown table (k * 36) at_end_of.end_of.ensures in
+    let typst = text-shown table (k * 36) at_end_of.end_of_lem.ensures in
     let latex = text-shown table (k * 36 + 16) at-end-of2.end-of2.ensures in
     row-applied at-start.args.kind (row_at table k) typst latex at-bounds-of.bounds_of.ensures c.before.before.apply.ensures
 

@@ -18,7 +18,7 @@ end-of-requires : tie.Need-end-of-requires
 end-of-requires c κs = let w = row_within c.before.before.args.table.now c.before.before.args.k c.before.before.requires.1.1 in omega arith
 
 part-is-nowhere-end : tie.Need-slice-bounds-is-nowhere-end
-part-is-nowhere-end c = let w = row_within c.before.before.before.args.table.now c.before.before.before.args.k c.before.before.before.requires.1.1 in let t = typst-fits c.before.before.before.args.table.now c.before.before.before.args.k c.before.before.before.requires.1.1 in let e = c.end_of.ensures in omega arith
+part-is-nowhere-end c = let w = row_within c.before.before.before.args.table.now c.before.before.before.args.k c.before.before.before.requires.1.1 in let t = typst-fits c.before.before.before.args.table.now c.before.before.before.args.k c.before.before.before.requires.1.1 in let e = c.end_of_lem.ensures in omega arith
 
 is-nowhere-requires : tie.Need-is-nowhere-requires
 is-nowhere-requires c κs =
@@ -29,7 +29,7 @@ returns : tie.Need-returns
 returns c =
     let at-start : tie.Start = search in
     let a = at-start.args in
-    c.is-nowhere.ensures ∙ ap (nowhere a.text a.work.now) (text-shown a.table.now (a.k * 36) c.before.before.end_of.ensures)
+    c.is-nowhere.ensures ∙ ap (nowhere a.text a.work.now) (text-shown a.table.now (a.k * 36) c.before.before.end_of_lem.ensures)
 
 pub is-row-nowhere-spec : {M : Type 1} → statement M
 is-row-nowhere-spec =

@@ -10,14 +10,14 @@ use Rattle.quotes.proofs.after_quote.Tie as tie
 
 -- the test of that symbol, as the definition has it
 test : (c : tie.After-is-alnum)
-    → (let at-start : tie.Start = search in let x = get_or at-start.args.s.now c.before.before.run_end.result 0 in (c.is-alnum.result || is "\"" c.before.symbol.result) ≡ (alnum x || is "\"" x))
+    → (let at-start : tie.Start = search in let x = get_or at-start.args.s.now c.before.before.run-end.result 0 in (c.is-alnum.result || is "\"" c.before.symbol.result) ≡ (alnum x || is "\"" x))
 test c = ap (λ b. b || is "\"" c.before.symbol.result) c.is-alnum.ensures ∙ ap (λ x. alnum x || is "\"" x) c.before.symbol.ensures
 
 returns : tie.Need-returns
-returns c = closed-gap c.before.before.before.run_end.ensures (sym (test c.before) ∙ c.if1.true)
+returns c = closed-gap c.before.before.before.run-end.ensures (sym (test c.before) ∙ c.if1.true)
 
 returns-2 : tie.Need-returns-2
-returns-2 c = closed-plain c.before.before.before.run_end.ensures (sym (test c.before) ∙ c.if1.false)
+returns-2 c = closed-plain c.before.before.before.run-end.ensures (sym (test c.before) ∙ c.if1.false)
 
 pub after-quote-spec : {M : Type 1} → statement M
 after-quote-spec =

@@ -1,7 +1,6 @@
 -- What an accepting call says of its formula and of its output. Assumes nothing.
 --     converted-admitted, converted-fits    the formula was admitted, and what it is converted to fits the output
---     put-out                               the bytes that a call puts out are what it comes to
---     call-converted                        so they are what the formula is converted to
+--     call-converted                        the bytes that a call puts out are what the formula is converted to
 --     call-count                            its count is theirs
 use Rattle.std.specs.Prelude.{◌≡◌, Bool, List, ℕ, ◌≤◌, ltb, take, drop}
 use Rattle.std.proofs.Common.{sym, ap, ap₂, ◌∙◌, ltb-false}
@@ -30,18 +29,18 @@ module _ (formula table : List ℕ) (display : Bool) (field : ℕ) (work output 
           let room = unrefused 10 s (ltb (length output) (length s)) e in
           rw room.0 (ltb-false (length output) (length s) room.1)
 
-pub passed-injective : {k m : ℕ} → ◌≡◌ {A = Result ℕ} (passed k) (passed m) → k ≡ m
-passed-injective e = cc
-
-pub put-out : (r : Result (List ℕ)) (output : List ℕ) {output' : List ℕ} {n : ℕ} → passed n ≡ answer_of r → output' ≡ output_after r output → r ≡ passed (take n output')
-put-out (refused number) output e o = absurd (unpassed (sym e))
-put-out (passed s) output {n = n} e o =
-    let count : n ≡ length s = cc in
-    ap passed (sym (ap₂ (λ (k : ℕ) (l : List ℕ). take k l) count o ∙ take-append_seam s (drop (length s) output)))
-
 module _ {formula table : List ℕ} {display : Bool} {field : ℕ} {work output work' output' : List ℕ} {n : ℕ} (c : Call formula table display field work output (passed n) work' output') where
   pub call-converted : converted formula table display field work output ≡ passed (take n output')
-  call-converted = put-out (converted formula table display field work output) output c.answers c.writes
+  call-converted = go (converted formula table display field work output) c.answers c.writes
+    where
+      go : (r : Result (List ℕ)) → passed n ≡ answer_of r → output' ≡ output_after r output → r ≡ passed (take n output')
+      go (refused number) e o = absurd (unpassed (sym e))
+      go (passed s) e o =
+          let count : n ≡ length s = cc in
+          ap passed (sym (ap₂ (λ (k : ℕ) (l : List ℕ). take k l) count o ∙ take-append_seam s (drop (length s) output)))
 
   pub call-count : n ≡ length (take n output')
   call-count = passed-injective (c.answers ∙ ap answer_of call-converted)
+    where
+      passed-injective : {k m : ℕ} → ◌≡◌ {A = Result ℕ} (passed k) (passed m) → k ≡ m
+      passed-injective e = cc

@@ -7,23 +7,12 @@ use Rattle.std.proofs.lemmas.List.{reverse-append, reverse-reverse, length-rever
 use Rattle.std.proofs.Math.Option.{Option, none, some, none-ne-some, some-ne-none}
 use Prim.Native.Char.{code}
 use Rattle.std.proofs.Math.Seq.{take-append_seam}
-use Rattle.spec.specs.Symbols.{between, digit, letter, is_some, head, past, any, until, drop_while, starts, contains, find}
-use Rattle.spec.specs.Laws.Booleans.{untrue, and_left, and_right, and_parts, or_split}
+use Rattle.spec.specs.Symbols.{digit, is_some, head, past, any, until, drop_while, starts, contains, find}
+use Rattle.spec.specs.Laws.Booleans.{untrue, and_left, and_right, and_parts}
 
 -- ---- digits
 pub digit-range : (x : ℕ) → digit x ≡ true → (code "0" ≤ x) × (x ≤ code "9")
 digit-range x e = let both = and_parts (leb (code "0") x) (leb x (code "9")) e in (leb-true (code "0") x both.0, leb-true x (code "9") both.1)
-
-pub digit-not-letter : (x : ℕ) → digit x ≡ true → letter x ≡ false
-digit-not-letter x h =
-    let high = (digit-range x h).1 in
-    untrue (letter x)
-    (λ t. or_split (between (code "a") (code "z") x) (between (code "A") (code "Z") x) t
-    (λ e. let low = leb-true (code "a") x (and_left (leb (code "a") x) (leb x (code "z")) e) in omega arith)
-    (λ e. let low = leb-true (code "A") x (and_left (leb (code "A") x) (leb x (code "Z")) e) in omega arith))
-
-pub letter-not-digit : (x : ℕ) → letter x ≡ true → digit x ≡ false
-letter-not-digit x h = untrue (digit x) (λ t. false≢true (sym (digit-not-letter x t) ∙ h))
 
 -- ---- places
 pub drop-step : (s : List ℕ) (i : ℕ) → i < length s → drop i s ≡ get_or s i 0 ∷ drop (i + 1) s

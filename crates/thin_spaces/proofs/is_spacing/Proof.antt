@@ -17,9 +17,9 @@ returns c =
     let at-start : tie.Start = search in
     let letters : tie.After-run-end = search in
     let s = at-start.args.s.now in
-    let end = letters.run_end.result in
+    let end = letters.run-end.result in
     ap₂ (λ a b. ltb 0 end && (a && not b)) (c.before.before.is-argument.ensures ∙ ap is_argument (rest_of end s)) (c.is-atom-command.ensures ∙ ap (λ k. one_of atom_commands (take k s)) (sub-zero end))
-    ∙ spacing-is letters.run_end.ensures
+    ∙ spacing-is letters.run-end.ensures
 
 pub is-spacing-spec : {M : Type 1} → statement M
 is-spacing-spec =

@@ -39,7 +39,7 @@ stands-for-requires c κs =
     let at-start : tie.Start = search in
     let back : tie.After-run-start = search in
     let ahead : tie.After-run-end = search in
-    (at-start.pre, runs-within back.run-start.ensures ahead.run_end.ensures)
+    (at-start.pre, runs-within back.run-start.ensures ahead.run-end.ensures)
 
 returns-2 : tie.Need-returns-2
 returns-2 c =
@@ -47,7 +47,7 @@ returns-2 c =
     let else1 : tie.Else1 = search in
     let back : tie.After-run-start = search in
     let ahead : tie.After-run-end = search in
-    points-word at-start.args.place (on_word else1) back.run-start.ensures ahead.run_end.ensures c.stands-for.ensures
+    points-word at-start.args.place (on_word else1) back.run-start.ensures ahead.run-end.ensures c.stands-for.ensures
 
 pub pointed-spec : {M : Type 1} → statement M
 pointed-spec =

@@ -8,7 +8,7 @@ use Rattle.fraction_denominators.proofs.past.past_factorials.Statement.{statemen
 use Rattle.fraction_denominators.proofs.past.past_factorials.Tie as tie
 
 returns : tie.Need-returns
-returns c = let a = c.before.before.args in ahead-then (omega arith) c.run_end.ensures (factorials-run (drop a.start a.s.now))
+returns c = let a = c.before.before.args in ahead-then (omega arith) c.run-end.ensures (factorials-run (drop a.start a.s.now))
 
 pub past-factorials-spec : {M : Type 1} → statement M
 past-factorials-spec = tie.close (tie.spec (λ c κs. search rules) returns)

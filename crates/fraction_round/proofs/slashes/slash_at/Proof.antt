@@ -66,7 +66,7 @@ returns-4 c =
     let else2 : tie.Else2 = search in
     let at-is-left : tie.After-is-left = search in
     let after-start : tie.After-start = search in
-    let under = c.before.before.run_end.ensures in
+    let under = c.before.before.run-end.ensures in
     let barred = sym c.before.is-barred.ensures ∙ c.if3.true in
     λ done kept. slash-barred _ _ kept (numerated after-start) (sym (at-is-left.is-left.ensures done kept) ∙ else2.if2.left) under barred
 
@@ -79,7 +79,7 @@ returns-5 c =
     let after-start : tie.After-start = search in
     let free = sym at-is-barred.is-barred.ensures ∙ c.before.before.before.if3.false in
     let none = ahead-nothing c.before.before.find-fraction-part-after.ensures c.enum-told2.given.1 in
-    λ done kept. slash-alone _ _ kept (numerated after-start) (sym (at-is-left.is-left.ensures done kept) ∙ else2.if2.left) at-run-end.run_end.ensures free none
+    λ done kept. slash-alone _ _ kept (numerated after-start) (sym (at-is-left.is-left.ensures done kept) ∙ else2.if2.left) at-run-end.run-end.ensures free none
 
 returns-6 : tie.Need-returns-6
 returns-6 c =
@@ -93,7 +93,7 @@ returns-6 c =
     let den = c.before.before.before.find-fraction-part-after.ensures in
     let to = c.before.end.given.1 in
     let end = ahead-found den to in
-    λ done kept. slash-converts _ _ kept (numerated after-start) (sym (at-is-left.is-left.ensures done kept) ∙ else2.if2.left) at-run-end.run_end.ensures free (omega arith) end.from end.within (ahead-is den to)
+    λ done kept. slash-converts _ _ kept (numerated after-start) (sym (at-is-left.is-left.ensures done kept) ∙ else2.if2.left) at-run-end.run-end.ensures free (omega arith) end.from end.within (ahead-is den to)
 
 pub slash-at-spec : {M : Type 1} → statement M
 slash-at-spec =

@@ -11,10 +11,10 @@ run-end-requires c κs =
     let l = starts-long s.args.pattern.now s.args.s.now s.requires.starts_with in omega arith
 
 returns : tie.Need-returns
-returns c = λ left. let at-start : tie.Start = search in ident-wrapped at-start.pre left c.before.run_end.ensures (omega arith)
+returns c = λ left. let at-start : tie.Start = search in ident-wrapped at-start.pre left c.before.run-end.ensures (omega arith)
 
 returns-2 : tie.Need-returns-2
-returns-2 c = λ left. let at-start : tie.Start = search in ident-short at-start.pre left c.before.run_end.ensures (omega arith)
+returns-2 c = λ left. let at-start : tie.Start = search in ident-short at-start.pre left c.before.run-end.ensures (omega arith)
 
 pub wrap-multichar-spec : {M : Type 1} → statement M
 wrap-multichar-spec = tie.close (tie.spec run-end-requires returns returns-2)

@@ -5,7 +5,7 @@ use Rattle.text_symbols.proofs.runs.all_in.Statement.{statement}
 use Rattle.text_symbols.proofs.runs.all_in.Tie as tie
 
 returns : tie.Need-returns
-returns c = ahead-all (member c.before.before.args.class) c.run_end.ensures
+returns c = ahead-all (member c.before.before.args.class) c.run-end.ensures
 
 pub all-in-spec : {M : Type 1} → statement M
 all-in-spec = tie.close (tie.spec (λ c κs. search rules) returns)

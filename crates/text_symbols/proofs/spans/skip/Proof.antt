@@ -8,7 +8,7 @@ use Rattle.text_symbols.proofs.spans.skip.Tie as tie
 returns : tie.Need-returns
 returns c =
     let at-start : tie.Start = search in
-    skipped-span (member at-start.args.class) at-start.pre c.run_end.ensures
+    skipped-span (member at-start.args.class) at-start.pre c.run-end.ensures
 
 pub skip-spec : {M : Type 1} → statement M
 skip-spec =

@@ -1,26 +1,25 @@
--- `name_greek::find_name` meets its contract. The loop's invariant: the text is none of the names passed. Assumes nothing.
+-- `name_greek::is_name` meets its contract. The loop's invariant: the text is none of the names passed. Assumes nothing.
 use mathlib.Core.Path.{◌≡◌, sym, ap, ◌∙◌}
 use Prim.Native.Nat.{◌-◌, ◌/◌}
 use native.Mathlib.Omega.{arith}
 use lib.ListN.{length}
 use borrow.Author.Rules.{rules}
-use Rattle.spec.specs.Grammar.{typsts}
-use Rattle.name_greek.specs.Names.{row_from, greek_row}
+use Rattle.spec.specs.Finish.{one_of}
+use Rattle.spec.specs.Grammar.{typsts, greek_names}
 use Rattle.name_greek.specs.Rows.{rows_from, fair-at, rows_all, this-row, next_row, no_row}
-use Rattle.name_greek.proofs.find_name.Statement.{statement}
-use Rattle.name_greek.proofs.find_name.Tie as tie
+use Rattle.name_greek.proofs.is_name.Statement.{statement}
+use Rattle.name_greek.proofs.is_name.Tie as tie
 
 abbrev invariant-loop : tie.invariant-loop
-invariant-loop s table rows k₀ k = row_from k (typsts (rows_from table k (length table / 36 - k))) s ≡ greek_row s
+invariant-loop s table rows k₀ k = one_of (typsts (rows_from table k (length table / 36 - k))) s ≡ one_of greek_names s
 
 abbrev decreases-loop : tie.decreases-loop
 decreases-loop s table rows k₀ k = length table / 36 - k
 
 loop-holds : tie.Need-loop-init invariant-loop decreases-loop
-unfolding greek_row
 loop-holds c =
     let at-start : tie.Start invariant-loop decreases-loop = search in
-    ap (λ rs. row_from 0 (typsts rs) at-start.args.s.now) (rows_all at-start.args.table.now ∙ at-start.pre.1)
+    ap (λ rs. one_of (typsts rs) at-start.args.s.now) (rows_all at-start.args.table.now ∙ at-start.pre.1)
 
 is-row-requires : tie.Need-is-row-requires invariant-loop decreases-loop
 is-row-requires c κs =
@@ -47,5 +46,5 @@ returns-2 c =
     let a = at-start.args in let l = c.before.loop in
     no_row a.table.now a.s.now l.k (length a.table.now / 36) (omega arith) ∙ l.invariant
 
-pub find-name-spec : {M : Type 1} → statement M
-find-name-spec = tie.close (tie.spec invariant-loop decreases-loop loop-holds is-row-requires returns (λ c. search rules) (λ c. search rules) loop-again returns-2)
+pub is-name-spec : {M : Type 1} → statement M
+is-name-spec = tie.close (tie.spec invariant-loop decreases-loop loop-holds is-row-requires returns (λ c. search rules) (λ c. search rules) loop-again returns-2)
