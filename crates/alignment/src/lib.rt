@@ -1,5 +1,7 @@
 // Line breaks and alignment. A line break is a backslash behind a space, before a newline or at the very end: it is doubled. A text with
 // `&` is trimmed and set in an environment. Since blanks are written as they are, trimming what is read trims what is written.
+#![tactic(auto)]
+
 ghost use Rattle.std.specs.Prelude.{◌≤◌, ◌<◌, ◌≡◌, [], ◌∷◌, length};
 ghost use Rattle.spec.specs.Symbols.{bytes, ends};
 ghost use Rattle.spec.specs.Result.{stage, most_symbols};

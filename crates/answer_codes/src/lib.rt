@@ -1,4 +1,6 @@
 // The answers of the exported functions in numbers, which C and Rust can take.
+#![tactic(auto)]
+
 ghost use Rattle.std.specs.Prelude.{◌≡◌, false};
 ghost use Rattle.spec.specs.WordAt.{number_of, part_of};
 ghost use Rattle.entry_ends.specs.Answer.{meaning};

@@ -1,5 +1,7 @@
 // `attach(base, b: bottom)` becomes `\underset{bottom}{base}`: the first call, again and again, until it can't be rewritten. The text
 // goes to and fro between the halves of the work buffer.
+#![tactic(auto)]
+
 ghost use Rattle.std.specs.Prelude.{◌≡◌, ◌++◌, ◌+◌, ◌*◌, ◌≤◌, length};
 ghost use Rattle.text_search.specs.Half.{half_work};
 ghost use Rattle.spec.specs.Result.{stage};
@@ -67,7 +69,7 @@ fn subscript_of(s: &[u8], span: Span) -> Span
 }
 
 // The arguments of a call that can be rewritten: its base and its subscript.
-#[derive(Drop)]
+#[derive(Clone, Copy)]
 pub enum Attachment {
     At(Span, Span),
     Nothing,
@@ -187,7 +189,7 @@ fn other_half(at: usize) -> usize
 }
 
 // A turn: the place and the length of the text that it has written, or there was nothing to rewrite.
-#[derive(Drop)]
+#[derive(Clone, Copy)]
 pub enum AttachTurn {
     To(usize, usize),
     Done,
@@ -215,7 +217,7 @@ fn attach_once(work: &mut [u8], at: usize, n: usize) -> AttachTurn
 }
 
 // Where a text lies in the buffer, and its length.
-#[derive(Drop)]
+#[derive(Clone, Copy)]
 pub struct TextPlace {
     pub at: usize,
     pub n: usize,

@@ -1,4 +1,6 @@
 // The stage `binom`: `binom(n, k)` becomes `\binom{n}{k}`. With no comma at its top level a call is copied as ordinary text.
+#![tactic(auto)]
+
 ghost use Rattle.std.specs.Prelude.{◌+◌, ◌≤◌, ◌<◌, length};
 ghost use Rattle.spec.specs.Result.{stage, most_symbols};
 ghost use Rattle.spec.specs.Calls.{convert_binom};

@@ -1,5 +1,7 @@
 // Commas that part arguments. The Rust's depth may go below zero, so brackets opened and closed are counted apart: a comma is at
 // the top level where they are as many. Quoted parentheses are not counted.
+#![tactic(auto)]
+
 ghost use Rattle.std.specs.Prelude.{◌≡◌, ◌≤◌, ◌<◌, ◌+◌, length};
 ghost use Rattle.spec.specs.Result.{most_symbols};
 ghost use Rattle.spec.specs.Closing.{any_side, find_comma_in_args, find_unescaped_comma, over_quotes, seen_from};
@@ -12,7 +14,7 @@ use call_quotes::Quotes;
 use text_search::Found;
 
 // Brackets of any kind, opened and closed so far.
-#[derive(Drop)]
+#[derive(Clone, Copy)]
 pub struct Balance {
     pub opened: usize,
     pub closed: usize,
@@ -33,7 +35,7 @@ impl Balance {
 
     // The balance after a symbol.
     pub fn step(self, symbol: u8) -> Balance
-        requires* { do ⌜ self.opened + self.closed < (← ⟦Balance::GREATEST⟧) ⌝ }
+        requires { self.opened + self.closed < Balance.GREATEST }
         ensures { result ≡ balanced self (any_side symbol) }
     {
         let mut next = self;
@@ -59,7 +61,7 @@ fn is_closer(b: u8) -> bool
 }
 
 // A comma at the top level: its place, and whether the search stands between quotes behind it.
-#[derive(Drop)]
+#[derive(Clone, Copy)]
 pub enum Comma {
     At(usize, Quotes),
     Nothing,
@@ -123,7 +125,7 @@ pub fn find_unescaped_comma(s: &[u8]) -> Found
 }
 
 // A part of a text: its end, and whether the search stands between quotes behind the comma there.
-#[derive(Drop)]
+#[derive(Clone, Copy)]
 pub struct Part {
     pub end: usize,
     pub quotes: Quotes,

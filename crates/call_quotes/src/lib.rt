@@ -1,4 +1,6 @@
 // What the searches of a call pass over: parentheses between a quote and the next one, as request A8 of document 02 has it.
+#![tactic(auto)]
+
 ghost use Rattle.std.specs.Prelude.{◌≡◌, true, false, ◌+◌, ◌≤◌, ◌<◌, length, get_or, drop};
 ghost use Rattle.text_search.specs.Half.{half_work};
 ghost use Rattle.text_search.specs.Search.{Finds, Closes};
@@ -25,7 +27,7 @@ fn next_quote(s: &[u8], start: usize) -> Found
 }
 
 // Whether a search stands between a quote and the next one.
-#[derive(Drop)]
+#[derive(Clone, Copy)]
 pub struct Quotes {
     pub quoted: bool,
 }

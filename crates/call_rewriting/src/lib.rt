@@ -1,5 +1,7 @@
 // What the call rewritings share: a call `name(..)` becomes `left..right`, wherever its parenthesis is closed. The name holds its
 // own parenthesis, as `bb(`.
+#![tactic(auto)]
+
 ghost use Rattle.std.specs.Prelude.{◌+◌, ◌-◌, ◌≤◌, ◌++◌, length};
 ghost use Rattle.text_search.specs.Half.{half_work};
 ghost use Rattle.spec.specs.Result.{stage, most_symbols};

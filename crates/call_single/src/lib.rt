@@ -1,5 +1,7 @@
 // The call rewritings with one argument, `op` to the second `upright`, in the Rust's order. Each is a stage: it takes the text where it
 // stands in the work buffer and gives it back rewritten, in the other region, or as it was where it has nothing to rewrite.
+#![tactic(auto)]
+
 ghost use Rattle.spec.specs.Result.{stage};
 ghost use Rattle.spec.specs.Calls.{convert_op, convert_bb, convert_bold, convert_upright, convert_floor, convert_ceil, convert_abs, convert_cal, convert_frak, convert_upright_again, convert_floor_ceil_abs};
 ghost use Rattle.text.specs.Stage.{Ready, Staged};

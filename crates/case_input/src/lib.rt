@@ -1,9 +1,11 @@
 // The cases on standard input of a program that answers them one after another. A case is the lengths of its two parts, two bytes each, most
 // significant first; then the one part; then the other.
+#![tactic(auto)]
+
 ghost use Rattle.case_input.specs.Lengths.{Limited};
 
 // What comes next: a case, by the lengths of its parts, or none that has room.
-#[derive(Drop)]
+#[derive(Clone, Copy)]
 pub enum Next {
     Case(usize, usize),
     Nothing,

@@ -1,5 +1,7 @@
 // `cases(..)` becomes LaTeX's environment of that name: its first occurrence only, and only if that one is closed. Its branches are
 // parted by commas at the top level; blank ones are dropped.
+#![tactic(auto)]
+
 ghost use Rattle.std.specs.Prelude.{◌+◌, ◌-◌, ◌*◌, ◌≤◌, ◌++◌, length};
 ghost use Rattle.spec.specs.Result.{stage, most_symbols};
 ghost use Rattle.spec.specs.Closing.{over_quotes};
@@ -16,7 +18,7 @@ use text_search::Found;
 use text_symbols::{Class, Span};
 
 // A branch, trimmed, from `start` to `end`; the place where the next one begins, and whether it begins between quotes.
-#[derive(Drop)]
+#[derive(Clone, Copy)]
 pub struct Branch {
     pub start: usize,
     pub end: usize,

@@ -1,5 +1,7 @@
 // The definitions of the table, applied outside of `\text{..}` blocks. Where none of them matches, every byte stays as it is; a text with
 // blocks that are to be held out is rewritten all the same.
+#![tactic(auto)]
+
 ghost use Rattle.std.specs.Prelude.{◌≡◌, false, List, [], ◌∷◌, map};
 ghost use Rattle.std.proofs.Math.Option.{some};
 ghost use Rattle.spec.specs.Table.{Definition, definitions, in_order};

@@ -8,7 +8,7 @@ ghost use Rattle.entry_ends.specs.Answer.{meaning};
 
 use math_conv::{Answer, typst_to_latex};
 
-#[derive(Drop)]
+#[derive(Clone, Copy)]
 pub struct Triple {
     pub first: Answer,
     pub second: Answer,

@@ -1,5 +1,7 @@
 // What is proved of calls of the entry: here demand 3 of document 01, of two calls that are made; in joins.rt document 02's A10, of three; in
 // specs/StarredCalls.antt document 01's starred cases. `calls-apart` in crates/plain_printing/specs/Calls.antt states demand 3 of any two calls.
+#![tactic(auto)]
+
 mod joins;
 
 ghost use Rattle.std.specs.Prelude.{◌≡◌, true, ◌≢◌, ℕ, take};
@@ -11,7 +13,7 @@ ghost use Rattle.entry_ends.specs.Answer.{meaning};
 pub use joins::{Triple, both_and_join};
 use math_conv::{Answer, typst_to_latex};
 
-#[derive(Drop)]
+#[derive(Clone, Copy)]
 pub struct Pair {
     pub first: Answer,
     pub second: Answer,

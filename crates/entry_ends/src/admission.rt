@@ -9,7 +9,7 @@ use text::{Progress, Refusal};
 use text_symbols::Class;
 
 // What the checks came to.
-#[derive(Drop)]
+#[derive(Clone, Copy)]
 pub enum Verdict {
     Passed,
     Refused(Refusal),

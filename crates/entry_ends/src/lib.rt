@@ -1,4 +1,6 @@
 // The two ends of the entry: whether a formula, its table and its tall field are admitted, and the finished text put out.
+#![tactic(auto)]
+
 mod admission;
 mod output;
 
@@ -7,7 +9,7 @@ pub use output::put_out;
 use text::Refusal;
 
 // The byte count of the LaTeX, or why there is none.
-#[derive(Drop)]
+#[derive(Clone, Copy)]
 pub enum Answer {
     Done(usize),
     Refused(Refusal),

@@ -1,5 +1,7 @@
 // Escapes: the solidus mark, set braces and the percent sign. Each is a stage; the solidus has two: a conversion begins with the one that
 // sets the mark, and the other writes a solidus for it.
+#![tactic(auto)]
+
 mod braces;
 
 ghost use Rattle.std.specs.Prelude.{[], ◌∷◌};

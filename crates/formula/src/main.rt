@@ -1,6 +1,8 @@
 // Document 01's program: the definition table from `sheet.defs`, the formula from standard input, the answer to standard output.
 //
 // Where something cannot be read or written, standard error says why; after a failed read standard output stays empty.
+#![tactic(auto)]
+
 mod reading;
 
 use formula_text::{INPUT, OUTPUT, TABLE, TEXT, WORK};

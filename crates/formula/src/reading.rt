@@ -1,7 +1,7 @@
 // Reading into a buffer: as many bytes as there are, or as fit.
 
 // How many bytes have been read, or that reading failed, which has been said.
-#[derive(Drop)]
+#[derive(Clone, Copy)]
 pub enum BytesRead {
     Bytes(usize),
     Failed,

@@ -1,5 +1,7 @@
 // Answers the cases of standard input by the function that the program `formula` prints. The parts of a case are its input and its table.
 // `tests/formula` writes the cases and what is expected.
+#![tactic(auto)]
+
 ghost use Rattle.std.specs.Prelude.{◌≤◌};
 
 use case_input::Next;

@@ -1,10 +1,12 @@
 // The input of the program `formula`: its first line, and the formula behind it.
+#![tactic(auto)]
+
 ghost use Rattle.std.specs.Prelude.{◌≡◌};
 ghost use Rattle.spec.specs.Program.{display_of, first_line, formula_of};
 ghost use Rattle.formula_input.specs.Input.{asked};
 
 // The display on or off; or neither `d` nor `i`.
-#[derive(Drop)]
+#[derive(Clone, Copy)]
 pub enum FirstLine {
     Display(bool),
     Neither,

@@ -1,4 +1,6 @@
 // The text of the answer of the program `formula`, at the start of a buffer.
+#![tactic(auto)]
+
 ghost use Rattle.std.specs.Prelude.{◌+◌, ◌^◌, ◌≤◌, ◌<◌, [], ◌∷◌, length};
 ghost use Rattle.spec.specs.Symbols.{bytes};
 ghost use Rattle.spec.specs.Result.{passed, refused};

@@ -1,4 +1,6 @@
 // What the program `formula` prints, from what it has read.
+#![tactic(auto)]
+
 ghost use Rattle.std.specs.Prelude.{◌≡◌, List, ℕ, ◌≤◌, length, take};
 ghost use Rattle.spec.specs.Pipeline.{least_work};
 ghost use Rattle.spec.specs.Program.{first_line, most_output, Read, Prints};

@@ -1,5 +1,7 @@
 // What is read after a slash: the denominator (find_fraction_part_after). The Rust counts bytes of the jump from
 // `\lvert` to `\rvert` where it should count symbols, which number 9 is for: `is_barred` says where it is met.
+#![tactic(auto)]
+
 mod past;
 
 ghost use Rattle.std.specs.Prelude.{◌≡◌, ◌≤◌, eqb, drop};

@@ -1,4 +1,6 @@
 // The slashes that a round leaves for the next one, and the marks by which it remembers them.
+#![tactic(auto)]
+
 ghost use Rattle.std.specs.Prelude.{◌≡◌, List, ℕ, ◌≤◌, ◌<◌, length};
 ghost use Rattle.spec.specs.Result.{most_symbols};
 ghost use Rattle.spec.specs.Fractions.{Done, nothing_done, is_left, leaving};

@@ -1,4 +1,6 @@
 // What is read before a slash: the numerator (find_fraction_part_before), and whether a script holds the slash.
+#![tactic(auto)]
+
 mod script;
 
 ghost use Rattle.std.specs.Prelude.{◌<◌, length, get_or};

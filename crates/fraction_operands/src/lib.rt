@@ -2,6 +2,8 @@
 //
 // A search stands at a place. To the right it looks at s[i], s[i + 1], .., to the left at s[i - 1], s[i - 2], ..; it answers the
 // place that it comes to.
+#![tactic(auto)]
+
 mod classes;
 mod groups;
 mod strip;

@@ -1,4 +1,6 @@
 // One round of fractions over the lent buffer.
+#![tactic(auto)]
+
 mod regular;
 mod slashes;
 mod writing;
@@ -7,14 +9,14 @@ pub use regular::convert_regular_fractions;
 use text_symbols::Span;
 
 // The numerator and the denominator of a slash.
-#[derive(Drop)]
+#[derive(Clone, Copy)]
 pub struct Operands {
     pub num: Span,
     pub den: Span,
 }
 
 // What becomes of a slash. Number 9 is `Barred`.
-#[derive(Drop)]
+#[derive(Clone, Copy)]
 pub enum Slash {
     Converts(Operands),
     Stays,
@@ -22,7 +24,7 @@ pub enum Slash {
 }
 
 // The length of the text that a round has written, or number 9.
-#[derive(Drop)]
+#[derive(Clone, Copy)]
 pub enum Outcome {
     Done(usize),
     Barred,

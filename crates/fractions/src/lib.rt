@@ -1,4 +1,6 @@
 // Fractions: rounds until nothing changes, with numbers 5, 7 and 9. The text changes sides with each round.
+#![tactic(auto)]
+
 ghost use Rattle.spec.specs.Fractions.{convert_fractions, settle as settled};
 ghost use Rattle.text.specs.Stage.{Ready, Staged};
 ghost use Rattle.text.specs.declared.Progress.TheVariants.{Text};
@@ -13,7 +15,7 @@ use text_search::Found;
 const ROUNDS: usize = 64;
 
 // What a round makes of a text: its new length, where it changes.
-#[derive(Drop)]
+#[derive(Clone, Copy)]
 pub enum Round {
     Unchanged,
     Changed(usize),

@@ -2,6 +2,8 @@
 //
 // A text with marks lies in one of the two regions for texts. Behind them, in the work buffer, stand the blocks, one behind the
 // other, and then their places.
+#![tactic(auto)]
+
 mod back;
 mod hold;
 
@@ -24,7 +26,7 @@ const PLACES_AT: usize = 27_648;
 const PLACES_ROOM: usize = 5_120;
 
 // A text with marks: its length, and how many bytes its blocks and their places fill.
-#[derive(Drop)]
+#[derive(Clone, Copy)]
 pub struct Marked {
     pub len: usize,
     pub used: usize,

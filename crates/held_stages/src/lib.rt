@@ -1,4 +1,6 @@
 // Blocks held out of a text, and put back: the two ends of the stages that spare block text.
+#![tactic(auto)]
+
 ghost use Rattle.std.specs.Prelude.{◌≡◌, [], ◌∷◌};
 ghost use Rattle.spec.specs.Matches.{text_opening, roman_opening};
 ghost use Rattle.spec.specs.Held.{Held, with_text, hold_texts, hold_both, put_back};
@@ -13,7 +15,7 @@ use text::Progress;
 
 // A text with marks: where it lies, its length, how many of its blocks are `\text` blocks, how many bytes all of them fill,
 // and how many symbols they have beyond their marks.
-#[derive(Drop)]
+#[derive(Clone, Copy)]
 pub struct OutsideText {
     pub at: usize,
     pub len: usize,

@@ -1,4 +1,6 @@
 // The library that C and Rust link: the entry, the plain check and the word under the pointer, each with its answer in numbers.
+#![tactic(auto)]
+
 ghost use Rattle.std.specs.Prelude.{◌≡◌, false};
 ghost use Rattle.spec.specs.Pipeline.{Call};
 ghost use Rattle.spec.specs.WordAt.{word_at, number_of, part_of};

@@ -1,5 +1,7 @@
 // The stage `lr`. Of `lr(`..`)` the first symbol inside says which delimiters are written, and the last is dropped unread. A delimiter
 // that stands alone inside is number 8.
+#![tactic(auto)]
+
 ghost use Rattle.std.specs.Prelude.{◌+◌, ◌≤◌, ◌<◌, ◌≡◌, length};
 ghost use Rattle.spec.specs.Result.{most_symbols};
 ghost use Rattle.text_search.specs.Half.{half_work};
@@ -14,7 +16,7 @@ use text::{Due, Progress, Refusal};
 use text_search::Found;
 
 // What the loop comes to: the finished text's length, or a bare delimiter.
-#[derive(Drop)]
+#[derive(Clone, Copy)]
 pub enum Ended {
     Length(usize),
     Bare,

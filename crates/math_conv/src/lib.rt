@@ -1,4 +1,6 @@
 // The entry: a formula and a definition table in, LaTeX out, over lent buffers.
+#![tactic(auto)]
+
 ghost use Rattle.spec.specs.Pipeline.{Call};
 ghost use Rattle.entry_ends.specs.Answer.{meaning};
 

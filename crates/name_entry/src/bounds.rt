@@ -2,7 +2,7 @@
 ghost use Rattle.std.specs.Prelude.{◌≡◌};
 ghost use Rattle.name_entry.specs.Bounded.{allowed, left};
 
-#[derive(Drop)]
+#[derive(Clone, Copy)]
 pub enum Bounds {
     // Anything.
     Literal,

@@ -2,6 +2,8 @@
 // entry that matches nowhere costs a search and no copy.
 //
 // While blocks are held out of a text, it counts as longer than it is: `extra` is by how much.
+#![tactic(auto)]
+
 mod bounds;
 mod presence;
 

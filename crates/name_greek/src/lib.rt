@@ -1,5 +1,7 @@
 // Tables of names: rows of one width, each a name as it is typed and its LaTeX. Here is how a row is read, and the table of the Greek
 // names, which the plain check reads too.
+#![tactic(auto)]
+
 ghost use Rattle.std.specs.Prelude.{◌≡◌, true, ◌+◌, ◌<◌, length, get_or};
 ghost use Rattle.spec.specs.Symbols.{same};
 ghost use Rattle.spec.specs.Finish.{one_of};

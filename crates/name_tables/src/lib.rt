@@ -1,4 +1,6 @@
 // Rows of a table, applied one after another: each row is a name as it is typed, and its LaTeX.
+#![tactic(auto)]
+
 ghost use Rattle.std.specs.Prelude.{◌≡◌, true, [], ◌∷◌, map};
 ghost use Rattle.spec.specs.Sweep.{sweep};
 ghost use Rattle.spec.specs.Words.{literal};
@@ -14,7 +16,7 @@ use name_greek::{ROW, TYPST};
 use text::Progress;
 
 // What may stand around the names of a table.
-#[derive(Drop)]
+#[derive(Clone, Copy)]
 pub enum NameKind {
     // Anything.
     Literal,

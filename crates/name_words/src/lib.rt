@@ -1,5 +1,7 @@
 // Functions, operators, Greek names and words: the tables of the Rust's convert_syntax, applied row by row. Where no row matches, every
 // byte stays as it is; a text with blocks that are to be held out is rewritten all the same.
+#![tactic(auto)]
+
 mod tables;
 
 ghost use Rattle.std.specs.Prelude.{◌∷◌, ◌++◌, map};

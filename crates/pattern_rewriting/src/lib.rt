@@ -1,5 +1,7 @@
 // Rewritings that wait for a pattern: where it stands, a text is written, then a part of what stands there, then perhaps a closing brace.
 // A rule looks at the text and says what is to be written; it writes nothing. One loop carries out what any of them says.
+#![tactic(auto)]
+
 mod rules;
 
 ghost use Rattle.std.specs.Prelude.{◌≡◌, ◌+◌, ◌-◌, ◌≤◌, ◌<◌, [], ◌∷◌, ◌++◌, length};
@@ -22,7 +24,7 @@ use text_search::Found;
 use text_symbols::Span;
 
 // What is done where the pattern stands.
-#[derive(Drop)]
+#[derive(Clone, Copy)]
 pub enum PatternKind {
     // The pattern is taken as a whole.
     Literal,
@@ -35,7 +37,7 @@ pub enum PatternKind {
 }
 
 // What a rule says of a place.
-#[derive(Drop)]
+#[derive(Clone, Copy)]
 pub enum Edit {
     // The symbol is copied.
     Copy,

@@ -1,6 +1,8 @@
 // The plain check: is a text one sum by document 01's rules, and of how many atoms?
 //
 // A reader for each rule calls those of its parts, each on what is left to read.
+#![tactic(auto)]
+
 mod readers;
 mod tokens;
 
@@ -9,7 +11,7 @@ ghost use Rattle.plain_check.specs.Check.{Checked};
 use plain_parts::Read;
 
 // Plain, with its number of atoms, or not.
-#[derive(Drop)]
+#[derive(Clone, Copy)]
 pub enum PlainAnswer {
     Yes(usize),
     No,

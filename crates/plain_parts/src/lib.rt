@@ -1,11 +1,13 @@
 // Parts that the plain check has read, and how they make a larger one. Where a part is missing, or the rules forbid it, nothing was
 // read.
+#![tactic(auto)]
+
 ghost use Rattle.std.specs.Prelude.{◌≡◌, true, ◌+◌, ◌<◌, ◌^◌};
 ghost use Rattle.plain_parts.specs.Parts.{bytes_of, JoinFits, FitBehind, ReadWithin, leaf, found, adjoined, behind, divided, scripted, closed, enclosed_script};
 
 // What was read: its bytes and atoms, and what the rules ask of it. It is lone if it is one atom, and wrapped if it is one atom in
 // parentheses.
-#[derive(Drop)]
+#[derive(Clone, Copy)]
 pub struct PlainPart {
     pub used: usize,
     pub atoms: usize,
@@ -15,7 +17,7 @@ pub struct PlainPart {
 }
 
 // What a reader answers.
-#[derive(Drop)]
+#[derive(Clone, Copy)]
 pub enum Read {
     Found(PlainPart),
     Nothing,

@@ -1,5 +1,7 @@
 // Every text of up to 5 bytes over eleven symbols goes to the plain check, and each plain one to the entry. The program writes the plain ones, each
 // with its atoms and its LaTeX, and counts how many different LaTeX texts there are. `oracle/run short` makes the same list from the grammar.
+#![tactic(auto)]
+
 mod printed;
 mod spelling;
 
@@ -13,7 +15,7 @@ use spelling::spell;
 const TEXTS: usize = 177_156;
 
 // How many texts were plain, how many different LaTeX texts they printed, and the bytes in use for these.
-#[derive(Drop)]
+#[derive(Clone, Copy)]
 struct Tally {
     plain: u64,
     different: u64,

@@ -1,6 +1,8 @@
 // Quoted text: `"..."` becomes `\text{...}`, with a thin space where a letter, digit, closing brace or another quote is its
 // neighbour. Blanks before such a neighbour are dropped, also those written already: what has been written is never read back, its
 // end is handed on by value.
+#![tactic(auto)]
+
 ghost use Rattle.std.specs.Prelude.{◌≡◌, ◌≤◌, ◌<◌, length};
 ghost use Rattle.spec.specs.Result.{stage, most_symbols};
 ghost use Rattle.spec.specs.Quotes.{convert_text_quotes};
@@ -14,7 +16,7 @@ use text::{Due, Progress};
 use text_symbols::Class;
 
 // The end of a text: its last symbol that is not blank (0: none), and the number of blanks behind it.
-#[derive(Drop)]
+#[derive(Clone, Copy)]
 pub struct TextEnd {
     pub last: u8,
     pub blanks: usize,
@@ -52,7 +54,7 @@ impl TextEnd {
 }
 
 // What follows a closing quote: whether it gets a thin space, and the place where the text goes on.
-#[derive(Drop)]
+#[derive(Clone, Copy)]
 pub struct After {
     pub gap: bool,
     pub next: usize,

@@ -9,7 +9,7 @@ use super::summary::tell;
 use math_conv::Answer;
 
 // What a call is lent, and the number that it is to answer, 0 for done.
-#[derive(Drop)]
+#[derive(Clone, Copy)]
 pub struct Setting {
     pub display: bool,
     pub field: u32,
@@ -18,7 +18,7 @@ pub struct Setting {
     pub number: u64,
 }
 
-#[derive(Drop)]
+#[derive(Clone, Copy)]
 pub enum Difference {
     Nothing,
     Number,

@@ -13,7 +13,7 @@ const MOST: usize = 57_344;
 const HEADER: usize = 18;
 
 // The family, the display, the tall field, the lengths of the buffers, of the formula, the table and the LaTeX; the number, 0 for done.
-#[derive(Drop)]
+#[derive(Clone, Copy)]
 pub struct Case {
     pub family: u8,
     pub display: bool,
@@ -27,13 +27,13 @@ pub struct Case {
 }
 
 // How many cases follow.
-#[derive(Drop)]
+#[derive(Clone, Copy)]
 pub enum Head {
     Cases(usize),
     Other,
 }
 
-#[derive(Drop)]
+#[derive(Clone, Copy)]
 pub enum NextCase {
     Whole(Case),
     Broken,

@@ -2,6 +2,8 @@
 //
 // Each case is called as it is recorded; each accepted one also with the output exactly full, with the output one byte short and
 // with the work buffer one byte short. Old contents stand in both buffers before each call.
+#![tactic(auto)]
+
 mod calls;
 mod cases;
 mod summary;

@@ -1,5 +1,7 @@
 // Subscripts and superscripts: a group in parentheses, a text block, or two letters or more behind `_` or `^` get braces. Each
 // rewriting is a stage of its own, for one sign.
+#![tactic(auto)]
+
 ghost use Rattle.std.specs.Prelude.{[], ◌∷◌};
 ghost use Rattle.spec.specs.Symbols.{bytes, contains};
 ghost use Rattle.spec.specs.Matches.{wrap_text_match, wrap_multichar_match, script_matches, subscript_matches, superscript_matches};

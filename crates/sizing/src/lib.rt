@@ -1,5 +1,7 @@
 // Delimiters around tall content get `\left` and `\right`, and so do those within them: the function calls itself on what stands
 // between two matched delimiters. Whether a delimiter is sized already is read in the text: what is written ends like what was read.
+#![tactic(auto)]
+
 mod pieces;
 
 ghost use Rattle.std.specs.Prelude.{◌+◌, ◌≡◌, [], ◌∷◌, ◌++◌, length};
@@ -15,7 +17,7 @@ pub use pieces::piece_at;
 use text::Progress;
 
 // What is done at a place.
-#[derive(Drop)]
+#[derive(Clone, Copy)]
 pub enum Piece {
     // So many symbols are copied: a script group, or one symbol.
     Keep(usize),

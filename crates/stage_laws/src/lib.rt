@@ -1,1 +1,2 @@
 // No code: what holds of the stages' results, on the definitions alone (specs/).
+#![tactic(auto)]

@@ -1,6 +1,8 @@
 // Runs functions of the Rust, each by itself, on lines of standard input, and writes what becomes of each line. A line that begins
 // with `#` is a heading: it begins the next section. Sections 1 to 19 are stages in the Rust's order, 20 to 26 closing and comma
 // searches, and the last one is the plain check. What `oracle/run stages` writes for the same lines is the file `stdout`.
+#![tactic(auto)]
+
 ghost use Rattle.std.specs.Prelude.{◌≤◌, length};
 ghost use Rattle.spec.specs.Result.{most_symbols};
 ghost use Rattle.spec.specs.Pipeline.{least_work};

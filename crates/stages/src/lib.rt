@@ -1,4 +1,6 @@
 // All stages, in the Rust's order and by its names.
+#![tactic(auto)]
+
 ghost use Rattle.std.specs.Prelude.{◌∷◌, map};
 ghost use Rattle.spec.specs.Result.{stage};
 ghost use Rattle.spec.specs.Definitions.{apply_definitions_outside_text};

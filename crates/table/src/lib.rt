@@ -1,10 +1,12 @@
 // The definition table's bytes: reading a record of either form.
+#![tactic(auto)]
+
 ghost use Rattle.std.specs.Prelude.{◌≡◌, cond, ◌≤◌, ◌<◌, length};
 ghost use Rattle.spec.specs.Table.{narrow, wide, form_of};
 ghost use Rattle.table.specs.Reading.{first_place, most_name, most_latex, Fits, ReadsIn, Reads};
 
 // A record's places in the table: the name lies from `name` to `latex`, the LaTeX from there to `next`, where the next record begins.
-#[derive(Drop)]
+#[derive(Clone, Copy)]
 pub struct Record {
     pub name: usize,
     pub latex: usize,
@@ -12,14 +14,14 @@ pub struct Record {
 }
 
 // What a header says of its record.
-#[derive(Drop)]
+#[derive(Clone, Copy)]
 struct Lengths {
     name: usize,
     latex: usize,
 }
 
 // What stands at a place of the table.
-#[derive(Drop)]
+#[derive(Clone, Copy)]
 pub enum Reading {
     Whole(Record),
     End,

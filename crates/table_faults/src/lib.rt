@@ -1,4 +1,6 @@
 // Number 3: what makes a table faulty. The records are counted first, so that what follows looks at no more than 64.
+#![tactic(auto)]
+
 ghost use Rattle.std.specs.Prelude.{◌≡◌};
 ghost use Rattle.spec.specs.Table.{records, definitions, faulty_name, faulty_latex, named, faulty};
 ghost use Rattle.table.specs.Reading.{Lies, first_place, definition_at};

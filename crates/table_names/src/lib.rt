@@ -1,4 +1,6 @@
 // The record of a name in the definition table.
+#![tactic(auto)]
+
 ghost use Rattle.table_names.specs.Named.{FindsNamed};
 
 use table::{Reading, record_at};

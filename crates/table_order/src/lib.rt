@@ -1,5 +1,7 @@
 // The order in which definitions are applied: longer names first, names of equal length in ascending byte order. Each next record is
 // picked from the table where it lies.
+#![tactic(auto)]
+
 ghost use Rattle.std.specs.Prelude.{◌≡◌};
 ghost use Rattle.spec.specs.Table.{lower, precedes as precedes_name};
 ghost use Rattle.table.specs.Reading.{Lies, ReadingLies, name_at};
@@ -9,7 +11,7 @@ ghost use Rattle.table_order.specs.Order.{Reached, is_left, Sooner, Nexts};
 use table::{Reading, Record, first_place, record_at};
 
 // How far the order has come: the record that came last, if one did.
-#[derive(Drop)]
+#[derive(Clone, Copy)]
 pub enum Cursor {
     Start,
     Behind(Record),

@@ -1,6 +1,8 @@
 // Texts in a lent buffer, and what all stages share: how far a formula has come, the refusals, the limits of document 01.
 //
 // A stage reads a text in one region of the work buffer and writes its own to the other.
+#![tactic(auto)]
+
 mod writer;
 
 ghost use Rattle.std.specs.Prelude.{◌≡◌};
@@ -21,7 +23,7 @@ pub const CAP: usize = 8_192;
 
 // Why a call is refused, by the trade's words. `LostBlock` is kept for its number: no call gives it. `NoWord` is met by the word under
 // the pointer alone.
-#[derive(Drop)]
+#[derive(Clone, Copy)]
 pub enum Refusal {
     ForeignByte,
     LongFormula,
@@ -58,7 +60,7 @@ pub fn number(why: Refusal) -> u64
 }
 
 // A text's place and length in the work buffer, or its refusal.
-#[derive(Drop)]
+#[derive(Clone, Copy)]
 pub enum Progress {
     Text(usize, usize),
     Refused(Refusal),
@@ -75,7 +77,7 @@ pub fn finished(to: usize, count: usize) -> Progress
 }
 
 // What a stage that waits for a pattern has to do.
-#[derive(Drop)]
+#[derive(Clone, Copy)]
 pub enum Due {
     // The text's place and length, the place to write to, and the pattern's first place in the text.
     Rewrite(usize, usize, usize, usize),

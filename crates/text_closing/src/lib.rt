@@ -1,4 +1,6 @@
 // Closing searches: where an opened bracket is closed.
+#![tactic(auto)]
+
 mod backward;
 mod level;
 
@@ -13,7 +15,7 @@ pub use level::is_level;
 use text_search::Found;
 
 // How deep the brackets of one kind are open.
-#[derive(Drop)]
+#[derive(Clone, Copy)]
 pub struct Tally {
     pub opener: u8,
     pub closer: u8,
@@ -39,7 +41,7 @@ impl Tally {
     // The tally after a symbol, while a bracket is open.
     pub fn step(self, symbol: u8) -> Tally
         requires depth_nonzero { 0 < self.depth }
-        requires* depth_bound { do ⌜ self.depth < (← ⟦Tally::GREATEST⟧) ⌝ }
+        requires depth_bound { self.depth < Tally.GREATEST }
         ensures { result ≡ stepped self symbol }
     {
         let mut next = self;

@@ -1,10 +1,12 @@
 // Searches that hold nothing: how a text begins, whether two are the same, where a pattern stands, what lies at a place.
+#![tactic(auto)]
+
 ghost use Rattle.std.specs.Prelude.{◌≡◌, ◌∷◌, ◌≤◌, eqb, length, get_or, drop};
 ghost use Rattle.spec.specs.Symbols.{any, same, starts, find as found, contains as occurs};
 ghost use Rattle.text_search.specs.Search.{Finds, Gap, Passed, Sought};
 
 // What a search answers.
-#[derive(Drop)]
+#[derive(Clone, Copy)]
 pub enum Found {
     At(usize),
     Nothing,

@@ -1,4 +1,6 @@
 // Symbols of a text: their classes, runs of a class, and spans without the symbols of a class at their ends.
+#![tactic(auto)]
+
 mod classes;
 mod runs;
 mod spans;
@@ -8,14 +10,14 @@ pub use runs::{all_in, run_end, run_start};
 pub use spans::{skip_end, trim};
 
 // The symbols from `start` up to `end`.
-#[derive(Drop)]
+#[derive(Clone, Copy)]
 pub struct Span {
     pub start: usize,
     pub end: usize,
 }
 
 // Symbols that may stand in a run.
-#[derive(Drop)]
+#[derive(Clone, Copy)]
 pub enum Class {
     Blank,
     Letter,

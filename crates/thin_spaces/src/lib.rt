@@ -1,5 +1,7 @@
 // A thin space `\;` is dropped behind a control word, which carries its own spacing. Whether one stands there is told by the last
 // backslash since the thin space before; what was written since then is what was read.
+#![tactic(auto)]
+
 ghost use Rattle.std.specs.Prelude.{◌≡◌, reverse};
 ghost use Rattle.spec.specs.Symbols.{bytes, starts};
 ghost use Rattle.spec.specs.Result.{stage, most_symbols};

@@ -1,5 +1,7 @@
 // The word under the pointer, document 02's A14: what the word at a byte place of a formula stands for, as a part of the formula or of the
 // table. No bytes are copied.
+#![tactic(auto)]
+
 ghost use Rattle.std.specs.Prelude.{◌≡◌, ◌-◌, ◌≤◌, length};
 ghost use Rattle.spec.specs.Result.{passed};
 ghost use Rattle.spec.specs.WordAt.{word_at, number_of, part_of, pointed as pointed_part, stands_for};
@@ -13,7 +15,7 @@ use text::Refusal;
 use text_symbols::Class;
 
 // From where up to where the part lies, or why there is none.
-#[derive(Drop)]
+#[derive(Clone, Copy)]
 pub enum WordPlace {
     InFormula(usize, usize),
     InTable(usize, usize),

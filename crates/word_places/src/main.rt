@@ -1,6 +1,8 @@
 // Writes the word under the pointer for each place of a formula and the one past its end, case by case. A line has the place, then `ok` and
 // the part that is handed back, or `refused` and the number. The parts of a case are the formula and the table. What `oracle/run words` writes
 // for the same cases is the file `stdout`.
+#![tactic(auto)]
+
 ghost use Rattle.std.specs.Prelude.{◌≤◌};
 
 use case_input::Next;
