@@ -1,0 +1,16 @@
+-- `plain_parts::adjoined` meets its contract: the arm that binds q knows that r is `Found q`. Assumes nothing.
+use native.Mathlib.Omega.{arith}
+use mathlib.Core.Path.{ap}
+use Rattle.plain_parts.specs.Parts.{bytes_of, atoms_of}
+use Rattle.plain_parts.proofs.adjoined.Goals as goal
+
+pub overflow_add-result-2 : goal.overflow_add-result-2
+overflow_add-result-2 c = omega (arith, ap bytes_of c.in-Found.is)
+
+pub overflow_add-result-3 : goal.overflow_add-result-3
+overflow_add-result-3 c =
+    omega (arith, ap atoms_of c.in-Found.is)
+
+pub returns : goal.returns
+returns c =
+    rw c.in-Found.is
