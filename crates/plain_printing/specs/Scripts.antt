@@ -119,7 +119,7 @@ module _ (m : ℕ) (hm : script_sign m ≡ true) where
     unfolding sweep
     converts-group =
         ap (λ (turn : Turn). turn.fresh ++ sweep (paren_to_brace (m ∷ bytes "(") (m ∷ bytes "{")) m turn.more (code "(" ∷ rest)) opens-group
-        ∙ ap (λ (l : List ℕ). (m ∷ bytes "{" ++ s ++ bytes "}") ++ l) (sweep-skip _ (bytes "(" ++ (s ++ bytes ")")) r m ∙ any-before m _ r)
+        ∙ ap (λ (l : List ℕ). (m ∷ bytes "{" ++ s ++ bytes "}") ++ l) (sweep-skip (paren_to_brace (m ∷ bytes "(") (m ∷ bytes "{")) (bytes "(" ++ (s ++ bytes ")")) r m ∙ any-before m _ r)
 
   group-converts : {s : List ℕ} → Nest s → BecomesBraced m (m ∷ (code "(" ∷ (s ++ code ")" ∷ []))) (m ∷ (code "{" ∷ (s ++ code "}" ∷ [])))
   group-converts {s} n = record { turns = λ r. converts-group n r }
