@@ -18,7 +18,7 @@ call_at-requires c = simp (length-take, length-drop) (omega arith)
 
 pub copy_one-count-requires : goal.copy_one-count-requires
 copy_one-count-requires c =
-    one-room c.loop-i.invariant.1 (omega arith)
+    let both = one-room c.loop-i.invariant.1 (omega arith) in record { room = both.0; at_in_bounds = both.1 }
 
 pub loop-i-preserved-in_default : goal.loop-i-preserved-in_default
 loop-i-preserved-in_default c =
