@@ -51,8 +51,11 @@ returns-then-has_line_breaks c =
     let regions = placed-regions c.requires c.in-Text.is in
     let plain = ap has_alignment (sym same) ∙ sym c.has_alignment.ensures ∙ c.if-has_alignment.false in
     let has = ap has_line_breaks (sym same) ∙ sym c.has_line_breaks.ensures ∙ c.if-has_line_breaks.true in
-    let whole = lined_to text c.in-Text.n 0 in record { staged = staged-written c.requires c.in-Text.is {c.text-1.given = whole} convert_alignment (appended-written {out = whole} c.put_lines-count.ensures.appended regions.region)
-          (align-breaks text plain has ∙ sym (lined-whole text c.in-Text.n (length_part c.in-Text.from c.in-Text.n w regions.source))) c.finished-then-has_line_breaks.ensures; untouched = untouched-matched c.in-Text.is (or_right (has_alignment text) (any_match (has_line_breaks ∷ []) text) (or_left false has)) }
+    let whole = lined_to text c.in-Text.n 0 in record {
+      staged = staged-written c.requires c.in-Text.is {t = whole} convert_alignment (appended-written {out = whole} c.put_lines-count.ensures.appended regions.region)
+          (align-breaks text plain has ∙ sym (lined-whole text c.in-Text.n (length_part c.in-Text.from c.in-Text.n w regions.source))) c.finished-then-has_line_breaks.ensures;
+      untouched = untouched-matched c.in-Text.is (or_right (has_alignment text) (any_match (has_line_breaks ∷ []) text) (or_left false has));
+    }
 
 pub returns : goal.returns
 returns c =

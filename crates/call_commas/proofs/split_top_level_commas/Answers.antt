@@ -18,5 +18,5 @@ returns c =
 
 pub overflow_add-end : goal.overflow_add-end
 overflow_add-end c =
-    let long = c.requires.sees.as_long in let w = (returns c).0.within in
+    let long = c.requires.sees.as_long in let w = (returns c).splits.within in
     omega arith

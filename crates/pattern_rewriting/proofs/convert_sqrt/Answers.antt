@@ -11,4 +11,4 @@ convert_pattern-requires c =
 
 pub returns : goal.returns
 unfolding convert_sqrt
-returns c = let applied = c.convert_pattern.ensures in record { staged = applied.0; untouched = untouched-contains (bytes "sqrt(") applied.1 }
+returns c = record { staged = c.convert_pattern.ensures.staged; untouched = untouched-contains (bytes "sqrt(") c.convert_pattern.ensures.untouched }

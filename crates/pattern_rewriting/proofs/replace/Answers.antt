@@ -6,5 +6,4 @@ use Rattle.pattern_rewriting.proofs.replace.Goals as goal
 pub returns : goal.returns
 unfolding replace
 returns c =
-    let applied = c.convert_pattern.ensures in
-    record { staged = applied.0; untouched = untouched-contains c.args.pattern.now applied.1 }
+    record { staged = c.convert_pattern.ensures.staged; untouched = untouched-contains c.args.pattern.now c.convert_pattern.ensures.untouched }

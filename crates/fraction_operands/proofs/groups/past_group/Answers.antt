@@ -10,7 +10,7 @@ use Rattle.fraction_operands.proofs.groups.past_group.Goals as goal
 pub returns-in_default : goal.returns-in_default
 returns-in_default c =
     let s = c.args.s.now in
-    record { from = omega arith; within = omega arith; left = drop-none s (length s) (omega arith) ∙ sym (ap or_end (ahead-nothing c.Closed-after.ensures c.in_default.is)) }
+    record { from = omega arith; within = omega arith; left = drop-none s (length s) (omega arith) ∙ sym (ap or_end (ahead-nothing c.closed_after.ensures c.in_default.is)) }
 
 pub returns : goal.returns
-returns c = ahead-found c.Closed-after.ensures c.in-At.is
+returns c = ahead-found c.closed_after.ensures c.in-At.is
