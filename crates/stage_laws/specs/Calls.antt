@@ -11,7 +11,7 @@ use Prim.Native.Nat.{ℕ, zero, suc, pred, ◌-◌}
 use Rattle.spec.specs.Symbols.{bytes, is, ◌and_then◌, blank, all, drop_while_end, solidus, text_mark, roman_mark, empty, trim, trim_quotes, starts, find, inside}
 use Rattle.spec.specs.Sweep.{Turn, taken, kept}
 use Rattle.spec.specs.Closing.{find_matching_paren, find_comma_in_args, find_unescaped_comma, unescaped_behind, split_top_level_commas, over_quotes, cut_alike}
-use Rattle.spec.specs.Calls.{call_at, call_length, rewritten, convert_calls, convert_op, nonblank, joined, latex_cases, spliced, cases_once, convert_cases, bottom, subscript, latex_underset, latex_attach, attach_once, attach_times, convert_attach, convert_bb, convert_bold, convert_binom, convert_upright, convert_floor, convert_ceil, convert_abs, convert_cal, convert_frak, convert_upright_again}
+use Rattle.spec.specs.Calls.{call_at, call_length, rewritten, calling, convert_calls, convert_op, nonblank, joined, latex_cases, spliced, cases_once, convert_cases, bottom, subscript, latex_underset, latex_attach, attach_once, attach_times, convert_attach, convert_bb, convert_bold, binom, convert_binom, convert_upright, convert_floor, convert_ceil, convert_abs, convert_cal, convert_frak, convert_upright_again}
 use Rattle.stage_laws.specs.Each.{Each, done, more, EachIf, nowhere, there, EachPart, none_left, part, within, each_of, each_within, each-then, each-get, each_append, each_take, each-drop, each-drop-while, each-drop-while-end, each-find, each-sweep, each-replace}
 
 abbrev pub unmarked : ℕ → Bool
@@ -51,7 +51,7 @@ module _ {p : ℕ → Bool} where
 
   calls-each : (name : List ℕ) (write : List ℕ → List ℕ) → ((inner : List ℕ) → Each p inner → Each p (write inner)) → {s : List ℕ} → Each p s → Each p (convert_calls name write s)
   unfolding convert_calls
-  calls-each name write w a = each-sweep (record { writes = λ before s b. go s b (call_at over_quotes name s) (call-each name b) }) 0 0 a
+  calls-each name write w a = each-sweep {rule = calling over_quotes name write} (record { writes = λ before s b. go s b (call_at over_quotes name s) (call-each name b) }) 0 0 a
     where
       go : (s : List ℕ) → Each p s → (o : Option (List ℕ)) → EachIf p o → Each p (rewritten name write s o).fresh
       go s b none i = each_take 1 b
@@ -176,7 +176,7 @@ module _ {p : ℕ → Bool} (writes : all p call_symbols ≡ true) where
   -- ---- binom
   pub binom-each : {s : List ℕ} → Each p s → Each p (convert_binom s)
   unfolding convert_binom
-  binom-each a = each-sweep (record { writes = λ before s b. go s b (call_at over_quotes (bytes "binom(") s) (call-each (bytes "binom(") b) }) 0 0 a
+  binom-each a = each-sweep {rule = binom} (record { writes = λ before s b. go s b (call_at over_quotes (bytes "binom(") s) (call-each (bytes "binom(") b) }) 0 0 a
     where
       binom_of : List ℕ → List ℕ → Option Turn
       binom_of inner behind =

@@ -40,7 +40,7 @@ rust-sizing-call {formula} {table} {work} {output} {display = display} c = call-
 -- ---- the display off
 admitted-known : (formula table : List ℕ) (field : ℕ) (work : List ℕ) → field ≤ all_tall → admitted formula table field work ≡ admitted_without_field formula table work
 admitted-known formula table field work h =
-    ap (λ b. elim (ltb (length work) least_work) as (λ _. Result (List ℕ)) [ true ↦ refused 4 | false ↦ elim b as (λ _. Result (List ℕ)) [ true ↦ refused 15 | false ↦ checked formula table ] ])
+    ap {A = Bool} {B = Result (List ℕ)} (λ b. elim (ltb (length work) least_work) as (λ _. Result (List ℕ)) [ true ↦ refused 4 | false ↦ elim b as (λ _. Result (List ℕ)) [ true ↦ refused 15 | false ↦ checked formula table ] ])
     (le-ltb all_tall field h)
 
 pub undisplayed-same :

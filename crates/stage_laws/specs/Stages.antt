@@ -13,7 +13,7 @@ use Rattle.spec.specs.Closing.{find_matching_paren}
 use Rattle.spec.specs.Calls.{convert_op, convert_cases, convert_attach, convert_bb, convert_bold, convert_binom, convert_upright, convert_floor, convert_ceil, convert_abs, convert_cal, convert_frak, convert_upright_again, convert_floor_ceil_abs}
 use Rattle.spec.specs.Quotes.{convert_text_quotes}
 use Rattle.spec.specs.Rows.{Row, function_mappings, operator_replacements}
-use Rattle.spec.specs.Words.{braced, convert_sqrt, replace_rows}
+use Rattle.spec.specs.Words.{paren_to_brace, braced, convert_sqrt, replace_rows}
 use Rattle.spec.specs.Pipeline.{mark_solidus}
 use Rattle.stage_laws.specs.Each.{Each, each_of, each_append, each_take, each-drop, each-sweep, each-replace}
 use Rattle.stage_laws.specs.Calls.{unmarked, call_symbols, writes-unmarked, written, inside-each, around, op-each, cases-each, attach-each, bb-each, bold-each, binom-each, upright-each, floor-each, ceil-each, abs-each, cal-each, frak-each, upright-again-each}
@@ -88,7 +88,7 @@ before_words s = stage convert_sqrt s then replace_rows function_mappings then r
 
 sqrt-unmarked : {s : List ℕ} → Each unmarked s → Each unmarked (convert_sqrt s)
 unfolding convert_sqrt
-sqrt-unmarked a = each-sweep (record { writes = λ before s b. go s b (starts (bytes "sqrt(") s) (find_matching_paren (drop 5 s)) }) 0 0 a
+sqrt-unmarked a = each-sweep {rule = paren_to_brace (bytes "sqrt(") (bytes "\\sqrt{")} (record { writes = λ before s b. go s b (starts (bytes "sqrt(") s) (find_matching_paren (drop 5 s)) }) 0 0 a
   where
     go : (s : List ℕ) → Each unmarked s → (t : Bool) (o : Option (List ℕ)) → Each unmarked (elim t as (λ t. Turn) [ true ↦ braced (bytes "sqrt(") (bytes "\\sqrt{") (drop 5 s) o | false ↦ kept s ]).fresh
     go s b true none = each_append (each_of (bytes "\\sqrt{") refl) (each-drop 5 b)

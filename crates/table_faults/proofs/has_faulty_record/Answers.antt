@@ -1,28 +1,22 @@
 -- `table_faults::has_faulty_record` meets its contract. The loop's invariant: the records from `at` on decide. Assumes nothing.
 use Rattle.table.specs.Reading.{first_place, definition_at}
 use Rattle.table.specs.Listed.{listed, Heads, heads}
-use Rattle.table_faults.specs.Faults.{faulty-cons}
+use Rattle.table.specs.declared.Record.{Record}
+use Rattle.table_faults.specs.Faults.{faulty_first, faulty-cons}
 use Rattle.table.proofs.Tags.{listed-none}
 use Rattle.spec.specs.Table.{faulty}
 use mathlib.Core.Bool.{Bool, ◌||◌}
 use mathlib.Core.Path.{◌≡◌, sym, ap, ◌∙◌}
-use Prim.Native.Nat.{◌-◌}
+use mathlib.Core.List.{List}
+use Prim.Native.Nat.{ℕ, ◌-◌}
 use native.Mathlib.Omega.{arith}
 use Rattle.table_faults.proofs.has_faulty_record.Goals as goal
 
 -- the record that has been read decides, if it is faulty, and else those behind it
-decides : (c : tie.After-is-faulty-record invariant-loop decreases-loop) (t : Bool) → (let at-start : tie.Start invariant-loop decreases-loop = search in c.is-faulty-record.result ≡ t
-    → faulty (listed at-start.args.table.now (first_place at-start.args.table.now))
-    ≡ (t || faulty (listed at-start.args.table.now c.before.before.found.given.0.0.next)))
-decides c t e =
-    let at-loop : tie.At-loop invariant-loop decreases-loop = search in
-    let at-start : tie.Start invariant-loop decreases-loop = search in
-    let s = at-start.args.table.now in
-    let found = c.before.before.found.given.0.0 in
-    at-loop.loop.inv
-    ∙ ap faulty (here c.before).first
-    ∙ faulty-cons (definition_at s found) (listed s found.next)
-    ∙ ap (λ u. u || faulty (listed s found.next)) (sym c.is-faulty-record.ensures ∙ e)
+decides : (s : List ℕ) (first at : ℕ) {found : Record} {b t : Bool} → faulty (listed s first) ≡ faulty (listed s at) → Heads s at found
+    → b ≡ faulty_first (definition_at s found) (listed s found.next) → b ≡ t → faulty (listed s first) ≡ (t || faulty (listed s found.next))
+decides s first at {found} same here tested e =
+    same ∙ ap faulty here.first ∙ faulty-cons (definition_at s found) (listed s found.next) ∙ ap (λ u. u || faulty (listed s found.next)) (sym tested ∙ e)
 
 pub loop-found-init : goal.loop-found-init
 loop-found-init c = ap (λ at. faulty (listed c.args.table.now at)) (sym c.first_place-at.ensures)
@@ -36,11 +30,11 @@ is_faulty_record-requires c =
     let here : Heads c.args.table.now c.loop-found.at c.in-Whole.found = heads c.record_at.ensures c.in-Whole.is in (here).lies
 
 pub returns-then-is_faulty_record : goal.returns-then-is_faulty_record
-returns-then-is_faulty_record c = sym (decides c _ c.if-is_faulty_record.true)
+returns-then-is_faulty_record c = let here : Heads c.args.table.now c.loop-found.at c.in-Whole.found = heads c.record_at.ensures c.in-Whole.is in sym (decides _ (first_place c.args.table.now) _ c.loop-found.invariant here c.is_faulty_record.ensures c.if-is_faulty_record.true)
 
 pub loop-found-smaller : goal.loop-found-smaller
 loop-found-smaller c =
     let here : Heads c.args.table.now c.loop-found.at c.in-Whole.found = heads c.record_at.ensures c.in-Whole.is in let h = here in let b = h.behind in let p = h.lies in omega arith
 
 pub loop-found-preserved : goal.loop-found-preserved
-loop-found-preserved c = decides c _ c.if-is_faulty_record.false
+loop-found-preserved c = let here : Heads c.args.table.now c.loop-found.at c.in-Whole.found = heads c.record_at.ensures c.in-Whole.is in decides _ (first_place c.args.table.now) _ c.loop-found.invariant here c.is_faulty_record.ensures c.if-is_faulty_record.false
