@@ -1,0 +1,7 @@
+-- `held_blocks::hold::keep` meets its contract: a copy, and a place. Assumes nothing.
+use mathlib.Core.Logic.{inl}
+use native.Mathlib.Omega.{arith}
+use Rattle.held_blocks.proofs.hold.keep.Goals as goal
+
+pub copy-end-requires : goal.copy-end-requires
+copy-end-requires c = let p = c.requires in record { room = p.0; n_in_bounds = omega arith; apart = inl p.1.1.0 }
