@@ -7,7 +7,7 @@ use Prim.Native.Nat.{◌+◌, ◌-◌}
 use Rattle.attach.proofs.put_subscript.Given as goal
 
 abbrev pub invariant-loop-i : goal.invariant-loop-i
-invariant-loop-i l = (l.end ≡ l.from + l.n) × Sweeping commas l.initial.work l.i l.from l.n l.to half_work l.count written i
+invariant-loop-i l = (l.end ≡ l.from + l.n) × Sweeping commas l.initial.work l.work l.from l.n l.to half_work l.count l.written l.i
 
 abbrev pub decreases-loop-i : goal.decreases-loop-i
-decreases-loop-i l = l.n - i
+decreases-loop-i l = l.n - l.i

@@ -8,13 +8,13 @@ use native.Mathlib.Omega.{arith}
 use Rattle.attach.proofs.rewrite_attach.Goals as goal
 
 -- what lies within the text lies apart from the region that is written
-apart : (s : tie.Start) (at m : ℕ) → s.args.from ≤ at → at + m ≤ s.args.from + s.args.n → Apart at m s.args.to half_work
-apart s at m low high = ⊎_elim (λ l. inl (omega arith)) (λ l. inr (omega arith)) s.requires.0.apart
+apart : (from n to at m : ℕ) → Apart from n to half_work → from ≤ at → at + m ≤ from + n → Apart at m to half_work
+apart from n to at m r low high = ⊎_elim (λ l. inl (omega arith)) (λ l. inr (omega arith)) r
 
 pub copy-before-requires : goal.copy-before-requires
 copy-before-requires c =
     let r = c.requires.regions in
-    record { room = record { region = omega arith; small = omega arith }; n_in_bounds = omega arith; apart = apart c c.args.from c.args.i (omega arith) (omega arith) }
+    record { room = record { region = omega arith; small = omega arith }; n_in_bounds = omega arith; apart = apart c.args.from c.args.n c.args.to c.args.from c.args.i c.requires.regions.apart (omega arith) (omega arith) }
 
 pub overflow_add-from : goal.overflow_add-from
 overflow_add-from c =
@@ -52,14 +52,14 @@ put_underset-written-requires c =
       regions = record {
         source = omega arith;
         region = omega arith;
-        apart = apart c (c.args.from + below.start) (below.end - below.start) (omega arith) (omega arith);
+        apart = apart c.args.from c.args.n c.args.to (c.args.from + below.start) (below.end - below.start) c.requires.regions.apart (omega arith) (omega arith);
         short = omega arith;
         small = omega arith;
       };
       regions_2 = record {
         source = omega arith;
         region = omega arith;
-        apart = apart c (c.args.from + base.start) (base.end - base.start) (omega arith) (omega arith);
+        apart = apart c.args.from c.args.n c.args.to (c.args.from + base.start) (base.end - base.start) c.requires.regions.apart (omega arith) (omega arith);
         short = omega arith;
         small = omega arith;
       };
@@ -84,7 +84,7 @@ copy-requires c =
     let f = g.first in let bo = g.base-order in let bt = g.between in let lo = g.below-order in let la = g.last in
     let n = copied-long c.args.from c.args.i (omega arith) a in
     let behind = c.args.from + (c.args.i + 7 + c.args.k + 1) in
-    record { room = record { region = omega arith; small = omega arith }; n_in_bounds = omega arith; apart = apart c behind (c.args.from + c.args.n - behind) (omega arith) (omega arith) }
+    record { room = record { region = omega arith; small = omega arith }; n_in_bounds = omega arith; apart = apart c.args.from c.args.n c.args.to behind (c.args.from + c.args.n - behind) c.requires.regions.apart (omega arith) (omega arith) }
 
 pub returns : goal.returns
 returns c =
@@ -95,9 +95,9 @@ returns c =
     let f = g.first in let bo = g.base-order in let bt = g.between in let lo = g.below-order in let la = g.last in
     let below = c.args.below in let base = c.args.base in
     let behind = c.args.from + (c.args.i + 7 + c.args.k + 1) in
-    let of-below = appended-part a (c.args.from + below.start) (below.end - below.start) (apart c (c.args.from + below.start) (below.end - below.start) (omega arith) (omega arith)) in
-    let of-base = appended-part a (c.args.from + base.start) (base.end - base.start) (apart c (c.args.from + base.start) (base.end - base.start) (omega arith) (omega arith)) in
-    let away = apart c behind (c.args.from + c.args.n - behind) (omega arith) (omega arith) in
+    let of-below = appended-part a (c.args.from + below.start) (below.end - below.start) (apart c.args.from c.args.n c.args.to (c.args.from + below.start) (below.end - below.start) c.requires.regions.apart (omega arith) (omega arith)) in
+    let of-base = appended-part a (c.args.from + base.start) (base.end - base.start) (apart c.args.from c.args.n c.args.to (c.args.from + base.start) (base.end - base.start) c.requires.regions.apart (omega arith) (omega arith)) in
+    let away = apart c.args.from c.args.n c.args.to behind (c.args.from + c.args.n - behind) c.requires.regions.apart (omega arith) (omega arith) in
     let rest-b = appended-part b.0 behind (c.args.from + c.args.n - behind) away in
     let rest-a = appended-part a behind (c.args.from + c.args.n - behind) away in
     appended-more (appended-more a (rw of-base at (rw of-below at b.0))) (rw rest-a at (rw rest-b at d))

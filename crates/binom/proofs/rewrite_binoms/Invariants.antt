@@ -7,7 +7,7 @@ use Prim.Native.Nat.{◌+◌, ◌-◌}
 use Rattle.binom.proofs.rewrite_binoms.Given as goal
 
 abbrev pub invariant-loop-i : goal.invariant-loop-i
-invariant-loop-i l = (l.end ≡ l.from + l.n) × Sweeping binom l.initial.work l.count l.from l.n l.to most_symbols 0 l.i i
+invariant-loop-i l = (l.end ≡ l.from + l.n) × Sweeping binom l.initial.work l.work l.from l.n l.to most_symbols 0 l.count l.i
 
 abbrev pub decreases-loop-i : goal.decreases-loop-i
-decreases-loop-i l = l.n - i
+decreases-loop-i l = l.n - l.i

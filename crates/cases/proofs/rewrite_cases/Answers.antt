@@ -8,14 +8,13 @@ use native.Mathlib.Omega.{arith}
 use Rattle.cases.proofs.rewrite_cases.Goals as goal
 
 -- what lies within the text lies apart from the region that is written
-apart :
-    (s : tie.Start) (at m : ℕ) → s.args.from ≤ at → at + m ≤ s.args.from + s.args.n → Apart at m s.args.to most_symbols
-apart s at m low high = ⊎_elim (λ l. inl (omega arith)) (λ l. inr (omega arith)) s.requires.0.0.apart
+apart : (from n to at m : ℕ) → Apart from n to most_symbols → from ≤ at → at + m ≤ from + n → Apart at m to most_symbols
+apart from n to at m r low high = ⊎_elim (λ l. inl (omega arith)) (λ l. inr (omega arith)) r
 
 pub copy-before-requires : goal.copy-before-requires
 copy-before-requires c =
     let r = c.requires.regions.0 in
-    record { room = record { region = omega arith; small = omega arith }; n_in_bounds = omega arith; apart = apart c c.args.from c.args.i (omega arith) (omega arith) }
+    record { room = record { region = omega arith; small = omega arith }; n_in_bounds = omega arith; apart = apart c.args.from c.args.n c.args.to c.args.from c.args.i c.requires.regions.0.apart (omega arith) (omega arith) }
 
 pub put_cases-written-requires : goal.put_cases-written-requires
 put_cases-written-requires c =
@@ -27,7 +26,7 @@ put_cases-written-requires c =
       record {
         source = omega arith;
         region = omega arith;
-        apart = apart c (c.args.from + c.args.i + 6) c.args.k (omega arith) (omega arith);
+        apart = apart c.args.from c.args.n c.args.to (c.args.from + c.args.i + 6) c.args.k c.requires.regions.0.apart (omega arith) (omega arith);
         short = omega arith;
         small = omega arith;
       },
@@ -47,7 +46,7 @@ copy-requires c =
     let r = c.requires.regions.0 in
     let m = length_part c.args.from c.args.i c.args.work.now (omega arith) in
     let behind = c.args.from + c.args.i + 6 + c.args.k + 1 in
-    record { room = record { region = omega arith; small = omega arith }; n_in_bounds = omega arith; apart = apart c behind (c.args.from + c.args.n - behind) (omega arith) (omega arith) }
+    record { room = record { region = omega arith; small = omega arith }; n_in_bounds = omega arith; apart = apart c.args.from c.args.n c.args.to behind (c.args.from + c.args.n - behind) c.requires.regions.0.apart (omega arith) (omega arith) }
 
 pub returns : goal.returns
 returns c =
@@ -56,8 +55,8 @@ returns c =
     let d = c.copy.ensures in
     let behind = c.args.from + c.args.i + 6 + c.args.k + 1 in
     let r = c.requires.regions.0 in
-    let inner = appended-part a (c.args.from + c.args.i + 6) c.args.k (apart c (c.args.from + c.args.i + 6) c.args.k (omega arith) (omega arith)) in
-    let away = apart c behind (c.args.from + c.args.n - behind) (omega arith) (omega arith) in
+    let inner = appended-part a (c.args.from + c.args.i + 6) c.args.k (apart c.args.from c.args.n c.args.to (c.args.from + c.args.i + 6) c.args.k c.requires.regions.0.apart (omega arith) (omega arith)) in
+    let away = apart c.args.from c.args.n c.args.to behind (c.args.from + c.args.n - behind) c.requires.regions.0.apart (omega arith) (omega arith) in
     let rest-b = appended-part b.0 behind (c.args.from + c.args.n - behind) away in
     let rest-a = appended-part a behind (c.args.from + c.args.n - behind) away in
     appended-more (appended-more a (rw inner at b.0)) (rw rest-a at (rw rest-b at d))
