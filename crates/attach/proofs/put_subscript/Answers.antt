@@ -7,12 +7,6 @@ use Prim.Native.Nat.{◌-◌}
 use native.Mathlib.Omega.{arith}
 use Rattle.attach.proofs.put_subscript.Goals as goal
 
-slice-aggregate-starts-with : tie.Need-slice-aggregate-starts-with invariant-loop decreases-loop
-slice-aggregate-starts-with c = refl
-
-slice-aggregate-put-all : tie.Need-slice-aggregate-put-all invariant-loop decreases-loop
-slice-aggregate-put-all c = refl
-
 pub loop-i-init : goal.loop-i-init
 loop-i-init c = (refl, sweeping-none _ c.requires)
 

@@ -3,11 +3,6 @@ use Rattle.attach.specs.Attach.{subscript-none, subscript-fits, subscript-at}
 use native.Mathlib.Omega.{arith}
 use Rattle.attach.proofs.subscript_of.Goals as goal
 
-add-t10 : tie.Need-overflow-add-t10
-add-t10 c =
-    let at-start : tie.Start = search in
-    let f = subscript-fits at-start.pre c.before.before.before.find.ensures c.before.i.given.1 in omega arith
-
 pub returns-in_default : goal.returns-in_default
 returns-in_default c =
     subscript-none c.requires c.find.ensures c.in_default.is

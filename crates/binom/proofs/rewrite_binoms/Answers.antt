@@ -49,7 +49,7 @@ find_comma_in_args-requires c =
 
 pub copy_one-count-requires-in_default-find_comma_in_args : goal.copy_one-count-requires-in_default-find_comma_in_args
 copy_one-count-requires-in_default-find_comma_in_args c =
-    one-room c.loop-i.invariant.1 c.loop-i-test.true
+    let both = one-room c.loop-i.invariant.1 c.loop-i-test.true in record { room = both.0; at_in_bounds = both.1 }
 
 pub loop-i-preserved-in_default-find_comma_in_args : goal.loop-i-preserved-in_default-find_comma_in_args
 loop-i-preserved-in_default-find_comma_in_args c =

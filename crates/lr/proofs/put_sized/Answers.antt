@@ -23,7 +23,7 @@ returns-then-first-eq40 c =
 pub put_call-requires-then-first-eq124 : goal.put_call-requires-then-first-eq124
 put_call-requires-then-first-eq124 c =
     let m = c.saturating_sub-middle.ensures in
-    (record { region = c.requires.room.region; small = omega arith }, (omega arith, apart-part c.args.inside (c.args.k + 1) c.args.to most_symbols 1 c.saturating_sub-middle.result c.requires.apart (omega arith)))
+    record { room = record { region = c.requires.room.region; small = omega arith }; k_in_bounds = omega arith; apart = apart-part c.args.inside (c.args.k + 1) c.args.to most_symbols 1 c.saturating_sub-middle.result c.requires.apart (omega arith) }
 
 pub returns-then-first-eq124 : goal.returns-then-first-eq124
 returns-then-first-eq124 c =
@@ -33,7 +33,7 @@ returns-then-first-eq124 c =
 pub put_call-requires-then-first-eq91 : goal.put_call-requires-then-first-eq91
 put_call-requires-then-first-eq91 c =
     let m = c.saturating_sub-middle.ensures in
-    (record { region = c.requires.room.region; small = omega arith }, (omega arith, apart-part c.args.inside (c.args.k + 1) c.args.to most_symbols 1 c.saturating_sub-middle.result c.requires.apart (omega arith)))
+    record { room = record { region = c.requires.room.region; small = omega arith }; k_in_bounds = omega arith; apart = apart-part c.args.inside (c.args.k + 1) c.args.to most_symbols 1 c.saturating_sub-middle.result c.requires.apart (omega arith) }
 
 pub returns-then-first-eq91 : goal.returns-then-first-eq91
 returns-then-first-eq91 c =
@@ -43,7 +43,7 @@ returns-then-first-eq91 c =
 pub put_call-requires-then-first-eq123 : goal.put_call-requires-then-first-eq123
 put_call-requires-then-first-eq123 c =
     let m = c.saturating_sub-middle.ensures in
-    (record { region = c.requires.room.region; small = omega arith }, (omega arith, apart-part c.args.inside (c.args.k + 1) c.args.to most_symbols 1 c.saturating_sub-middle.result c.requires.apart (omega arith)))
+    record { room = record { region = c.requires.room.region; small = omega arith }; k_in_bounds = omega arith; apart = apart-part c.args.inside (c.args.k + 1) c.args.to most_symbols 1 c.saturating_sub-middle.result c.requires.apart (omega arith) }
 
 pub returns-then-first-eq123 : goal.returns-then-first-eq123
 returns-then-first-eq123 c =
@@ -57,4 +57,4 @@ copy-requires c =
 pub returns : goal.returns
 returns c =
     let e = no-delimiter c.args.first c.if-first-eq40.false c.if-first-eq124.false c.if-first-eq91.false c.if-first-eq123.false in
-    subst (λ o. Appended c.args.work.now c.copy.new.0 c.args.to most_symbols c.args.count c.copy.result (sized_by (part c.args.inside c.args.k c.args.work.now) o)) (sym e) c.copy.ensures
+    subst (λ o. Appended c.args.work.now c.copy.new.work c.args.to most_symbols c.args.count c.copy.result (sized_by (part c.args.inside c.args.k c.args.work.now) o)) (sym e) c.copy.ensures
