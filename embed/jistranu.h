@@ -1,10 +1,10 @@
-/* Typst math in, LaTeX out: the functions of libjistranu.a, which `embed/library` builds (`rt staticlib jistranu`).
+/* Typst math in, LaTeX out: the functions of libjistranu.a, which `embed/library` builds.
  *
  * The library allocates nothing, keeps nothing between two calls and calls nothing but memset, so any number of threads
  * may call it, each with buffers of its own.
  *
- * Measured: a conversion takes up to 0.8 MB of stack (0.4 MB without a table), a plain check up to 1.2 MB: 192 and 272 bytes for each
- * parenthesis that is open. Where none is, 11 KB and 1.5 KB. The word under the pointer takes less than 1 KB.
+ * Measured, with the older kit (README): a conversion takes up to 0.8 MB of stack (0.4 MB without a table), a plain check up to 1.2 MB:
+ * 192 and 272 bytes for each parenthesis that is open. Where none is, 11 KB and 1.5 KB. The word under the pointer takes less than 1 KB.
  *
  * Pointers are never null. Where a length is 0, the pointer may be any other, as that of an empty string.
  * What a call writes (`work`, `output`, `count`, `atoms`, `defined`, `start`, `length`) overlaps nothing else that it is handed.
