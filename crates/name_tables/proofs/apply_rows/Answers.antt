@@ -53,7 +53,7 @@ apply_row-done-requires c =
 
 pub mark-requires-in-loop-k : goal.mark-requires-in-loop-k
 mark-requires-in-loop-k c =
-    (c.loop-k.invariant.3, answered-ready (remaining-ready c.loop-k.invariant.1 c.requires.ready) c.apply_row-done.ensures.staged_within.staged.answered)
+    record { seen_len = c.loop-k.invariant.3; ready = answered-ready (remaining-ready c.loop-k.invariant.1 c.requires.ready) c.apply_row-done.ensures.staged_within.staged.answered }
 
 pub overflow_add-k-in-loop-k : goal.overflow_add-k-in-loop-k
 overflow_add-k-in-loop-k c =

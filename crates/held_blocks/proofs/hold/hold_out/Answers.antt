@@ -2,7 +2,6 @@
 use Prim.Native.Nat.{ℕ, ◌+◌, ◌-◌, ◌*◌, ◌≤◌}
 use mathlib.Core.Path.{refl, sym, ◌∙◌}
 use native.Mathlib.Omega.{arith}
-use borrow.Author.Tests.{not-true, not-false}
 use lib.ListN.{length, length-take, length-drop}
 use Rattle.spec.specs.Result.{most_symbols}
 use Rattle.text.specs.Writer.{apart-part, appended-long}
@@ -35,7 +34,7 @@ loop-i-preserved-then-not-starts_with c =
     let more = c.loop-i-test.true in
     let ends = c.loop-i.invariant.0 in
     let short = o.short in
-    let other = sym c.starts_with.ensures ∙ not-true c.starts_with.result c.if-not-starts_with.true-raw in
+    let other = sym c.starts_with.ensures ∙ c.if-not-starts_with.true in
     (refl, omega arith, holding-other o h (omega arith) other c.copy-len.ensures)
 
 pub slice_bounds-find_matching_brace-count : goal.slice_bounds-find_matching_brace-count
@@ -45,7 +44,7 @@ slice_bounds-find_matching_brace-count c =
     let more = c.loop-i-test.true in
     let ends = c.loop-i.invariant.0 in
     let short = o.short in
-    name-fits o h (sym c.starts_with.ensures ∙ not-false c.starts_with.result c.if-not-starts_with.false-raw) (omega arith) in let fits = name-ends in omega arith
+    name-fits o h (sym c.starts_with.ensures ∙ c.if-not-starts_with.false) (omega arith) in let fits = name-ends in omega arith
 
 pub slice_bounds-find_matching_brace-start : goal.slice_bounds-find_matching_brace-start
 slice_bounds-find_matching_brace-start c =
@@ -54,7 +53,7 @@ slice_bounds-find_matching_brace-start c =
     let more = c.loop-i-test.true in
     let ends = c.loop-i.invariant.0 in
     let short = o.short in
-    name-fits o h (sym c.starts_with.ensures ∙ not-false c.starts_with.result c.if-not-starts_with.false-raw) (omega arith) in let fits = name-ends in omega arith
+    name-fits o h (sym c.starts_with.ensures ∙ c.if-not-starts_with.false) (omega arith) in let fits = name-ends in omega arith
 
 pub find_matching_brace-requires : goal.find_matching_brace-requires
 find_matching_brace-requires c =
@@ -72,7 +71,7 @@ copy-len-requires-in_default c =
     let more = c.loop-i-test.true in
     let ends = c.loop-i.invariant.0 in
     let short = o.short in
-    (text-room o h (c.args.n - c.loop-i.i) (omega arith) (omega arith), (omega arith, apart-part c.args.from c.args.n c.args.to most_symbols c.loop-i.i (c.args.n - c.loop-i.i) o.apart (omega arith)))
+    record { room = text-room o h (c.args.n - c.loop-i.i) (omega arith) (omega arith); n_in_bounds = omega arith; apart = apart-part c.args.from c.args.n c.args.to most_symbols c.loop-i.i (c.args.n - c.loop-i.i) o.apart (omega arith) }
 
 pub loop-i-preserved-in_default : goal.loop-i-preserved-in_default
 loop-i-preserved-in_default c =
@@ -81,7 +80,7 @@ loop-i-preserved-in_default c =
     let more = c.loop-i-test.true in
     let ends = c.loop-i.invariant.0 in
     let short = o.short in
-    let met = sym c.starts_with.ensures ∙ not-false c.starts_with.result c.if-not-starts_with.false-raw in
+    let met = sym c.starts_with.ensures ∙ c.if-not-starts_with.false in
     (refl, omega arith, holding-rest o h (omega arith) met c.find_matching_brace.ensures c.in_default.is c.copy-len-in_default.ensures)
 
 pub put-len-requires : goal.put-len-requires
@@ -100,7 +99,7 @@ overflow_add-name c =
     let more = c.loop-i-test.true in
     let ends = c.loop-i.invariant.0 in
     let short = o.short in
-    let met = sym c.starts_with.ensures ∙ not-false c.starts_with.result c.if-not-starts_with.false-raw in
+    let met = sym c.starts_with.ensures ∙ c.if-not-starts_with.false in
     let x = h.filed-bounded in
     let y = o.small in
     record { ends = block-fits o h (omega arith) met c.find_matching_brace.ensures c.in-At.k c.in-At.is; short = short; few = omega arith } in
@@ -113,7 +112,7 @@ overflow_add-name-in-loop-i c =
     let more = c.loop-i-test.true in
     let ends = c.loop-i.invariant.0 in
     let short = o.short in
-    let met = sym c.starts_with.ensures ∙ not-false c.starts_with.result c.if-not-starts_with.false-raw in
+    let met = sym c.starts_with.ensures ∙ c.if-not-starts_with.false in
     let x = h.filed-bounded in
     let y = o.small in
     record { ends = block-fits o h (omega arith) met c.find_matching_brace.ensures c.in-At.k c.in-At.is; short = short; few = omega arith } in
@@ -126,7 +125,7 @@ keep-full-requires c =
     let more = c.loop-i-test.true in
     let ends = c.loop-i.invariant.0 in
     let short = o.short in
-    let met = sym c.starts_with.ensures ∙ not-false c.starts_with.result c.if-not-starts_with.false-raw in
+    let met = sym c.starts_with.ensures ∙ c.if-not-starts_with.false in
     let x = h.filed-bounded in
     let y = o.small in
     record { ends = block-fits o h (omega arith) met c.find_matching_brace.ensures c.in-At.k c.in-At.is; short = short; few = omega arith } in
@@ -152,7 +151,7 @@ overflow_add-listed c =
     let more = c.loop-i-test.true in
     let ends = c.loop-i.invariant.0 in
     let short = o.short in
-    let met = sym c.starts_with.ensures ∙ not-false c.starts_with.result c.if-not-starts_with.false-raw in
+    let met = sym c.starts_with.ensures ∙ c.if-not-starts_with.false in
     let x = h.filed-bounded in
     let y = o.small in
     record { ends = block-fits o h (omega arith) met c.find_matching_brace.ensures c.in-At.k c.in-At.is; short = short; few = omega arith } in
@@ -165,7 +164,7 @@ overflow_add-i-in-loop-i c =
     let more = c.loop-i-test.true in
     let ends = c.loop-i.invariant.0 in
     let short = o.short in
-    let met = sym c.starts_with.ensures ∙ not-false c.starts_with.result c.if-not-starts_with.false-raw in
+    let met = sym c.starts_with.ensures ∙ c.if-not-starts_with.false in
     let x = h.filed-bounded in
     let y = o.small in
     record { ends = block-fits o h (omega arith) met c.find_matching_brace.ensures c.in-At.k c.in-At.is; short = short; few = omega arith } in
@@ -178,7 +177,7 @@ overflow_add-i-in-loop-i-2 c =
     let more = c.loop-i-test.true in
     let ends = c.loop-i.invariant.0 in
     let short = o.short in
-    let met = sym c.starts_with.ensures ∙ not-false c.starts_with.result c.if-not-starts_with.false-raw in
+    let met = sym c.starts_with.ensures ∙ c.if-not-starts_with.false in
     let x = h.filed-bounded in
     let y = o.small in
     record { ends = block-fits o h (omega arith) met c.find_matching_brace.ensures c.in-At.k c.in-At.is; short = short; few = omega arith } in
@@ -191,7 +190,7 @@ loop-i-smaller c =
     let more = c.loop-i-test.true in
     let ends = c.loop-i.invariant.0 in
     let short = o.short in
-    let met = sym c.starts_with.ensures ∙ not-false c.starts_with.result c.if-not-starts_with.false-raw in
+    let met = sym c.starts_with.ensures ∙ c.if-not-starts_with.false in
     let x = h.filed-bounded in
     let y = o.small in
     record { ends = block-fits o h (omega arith) met c.find_matching_brace.ensures c.in-At.k c.in-At.is; short = short; few = omega arith } in
@@ -204,7 +203,7 @@ loop-i-preserved c =
     let more = c.loop-i-test.true in
     let ends = c.loop-i.invariant.0 in
     let short = o.short in
-    let met = sym c.starts_with.ensures ∙ not-false c.starts_with.result c.if-not-starts_with.false-raw in
+    let met = sym c.starts_with.ensures ∙ c.if-not-starts_with.false in
     let next = holding-held o h (omega arith) met c.find_matching_brace.ensures c.in-At.k c.in-At.is c.put-len.ensures c.keep-full.ensures in
     (refl, holding-long o next, next)
 

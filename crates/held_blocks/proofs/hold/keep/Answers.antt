@@ -4,4 +4,4 @@ use native.Mathlib.Omega.{arith}
 use Rattle.held_blocks.proofs.hold.keep.Goals as goal
 
 pub copy-end-requires : goal.copy-end-requires
-copy-end-requires c = let p = c.requires in record { room = p.0; n_in_bounds = omega arith; apart = inl p.1.1.0 }
+copy-end-requires c = record { room = c.requires.room; n_in_bounds = omega arith; apart = inl c.requires.long_bound.0 }
