@@ -10,7 +10,7 @@ use super::tokens;
 use plain_parts::Read;
 
 // A sum: products with ` + ` or ` - ` between them.
-#[cycle(factor_operand_product_script_scripts_sum)]
+#[cycle(readers)]
 pub fn sum(s: &[u8]) -> Read
     ensures { Answers read_sum 4 s.now result }
 {
@@ -32,7 +32,7 @@ pub fn sum(s: &[u8]) -> Read
 }
 
 // A product: factors with one space between them.
-#[cycle(factor_operand_product_script_scripts_sum)]
+#[cycle(readers)]
 fn product(s: &[u8]) -> Read
     ensures { Answers read_product 3 s.now result }
 {
@@ -54,7 +54,7 @@ fn product(s: &[u8]) -> Read
 }
 
 // A factor: an atom with its scripts, a fraction, or a sum in parentheses.
-#[cycle(factor_operand_product_script_scripts_sum)]
+#[cycle(readers)]
 fn factor(s: &[u8]) -> Read
     ensures { Answers read_factor 2 s.now result }
 {
@@ -75,7 +75,7 @@ fn factor(s: &[u8]) -> Read
 }
 
 // An operand: an atom, or a sum in parentheses.
-#[cycle(factor_operand_product_script_scripts_sum)]
+#[cycle(readers)]
 fn operand(s: &[u8]) -> Read
     ensures { Answers read_operand 1 s.now result }
 {
@@ -91,7 +91,7 @@ fn operand(s: &[u8]) -> Read
 }
 
 // The scripts of an atom: one of `_`, then one of `^`. Either may be missing.
-#[cycle(factor_operand_product_script_scripts_sum)]
+#[cycle(readers)]
 fn scripts(s: &[u8]) -> Read
     ensures { Answers read_scripts 1 s.now result }
 {
@@ -103,7 +103,7 @@ fn scripts(s: &[u8]) -> Read
 }
 
 // A sign and a script: one letter or digit, or a sum in parentheses. Where the sign is missing, nothing is read.
-#[cycle(factor_operand_product_script_scripts_sum)]
+#[cycle(readers)]
 fn script(s: &[u8], sign: u8) -> Read
     requires { 0 < sign }
     ensures { Answers (read_script sign) 0 s.now result }

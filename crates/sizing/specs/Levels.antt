@@ -1,6 +1,6 @@
 -- Sizing without the bound on its steps.
 --     sizes         what is written for the rest of a level, with what was written before, last first
---     size_step     it is one step, and sizing again
+--     sizes-step    it is one step, and sizing again
 -- Assumes nothing.
 use Rattle.std.proofs.Math.Path.{◌≡◌, refl, ap}
 use Rattle.std.proofs.Common.{sym, ◌∙◌, not-suc-le-zero, eqb-true}
@@ -175,9 +175,9 @@ pub sizes-end : (field : ℕ) (o : List ℕ) → sizes field o [] ≡ []
 unfolding sizes size_with size_step
 sizes-end field o = refl
 
-pub size_step : (field : ℕ) (o : List ℕ) (x : ℕ) (s : List ℕ) → sizes field o (x ∷ s) ≡ script_step field (sizes field) o x s (script_group x s)
+pub sizes-step : (field : ℕ) (o : List ℕ) (x : ℕ) (s : List ℕ) → sizes field o (x ∷ s) ≡ script_step field (sizes field) o x s (script_group x s)
 unfolding sizes size_with size_step
-size_step field o x s = step_same field (size_with field (length s)) (sizes field) o x s (λ p t h. enough field (length s) (length t) p t h (omega arith))
+sizes-step field o x s = step_same field (size_with field (length s)) (sizes field) o x s (λ p t h. enough field (length s) (length t) p t h (omega arith))
 
 -- ---- without an opening delimiter nothing is sized
 contains-suffix : (w u r : List ℕ) → contains w (u ++ r) ≡ false → contains w r ≡ false

@@ -13,7 +13,7 @@ use native.Mathlib.Omega.{arith}
 use Rattle.std.proofs.Math.ListN.{get_or, take, drop, length-drop}
 use Rattle.std.proofs.lemmas.List.{length-reverse}
 use Rattle.std.proofs.Math.Seq.{drop-drop}
-use Rattle.spec.specs.Symbols.{bytes, is, script_sign, head, until, inside, starts}
+use Rattle.spec.specs.Symbols.{bytes, is, script_sign, head, until, starts}
 use Rattle.spec.specs.Closing.{close, matching_delimiter}
 use Rattle.spec.specs.Finish.{script_group, closing, already_sized, Group, tall, tall_group, left_right, size_delimiters_to_content}
 use Rattle.spec.specs.Laws.Symbols.{drop-step, head-drop, starts-short}
@@ -23,7 +23,7 @@ use Rattle.text_search.specs.Search.{Closes, closes-at, closes-within, closes-no
 use Rattle.text_symbols.specs.Places.{before, before-next}
 use Rattle.text_search.specs.declared.Found.{Found}
 use Rattle.text_search.specs.declared.Found.TheVariants.{At, Nothing}
-use Rattle.sizing.specs.Levels.{if_tall, group_of, group_with, group_step, script_step, sizes, sizes-first, size_step, close-behind-closer}
+use Rattle.sizing.specs.Levels.{if_tall, group_of, group_with, group_step, script_step, sizes, sizes-first, sizes-step, close-behind-closer}
 use Rattle.sizing.specs.Alike.{Closer, group, sizes-alike}
 use Rattle.sizing.specs.declared.Piece.{Piece}
 use Rattle.sizing.specs.declared.Piece.TheVariants.{Keep, Tall}
@@ -156,7 +156,7 @@ passed-many s i k =
 module _ (field : ℕ) (s : List ℕ) (i : ℕ) (inside : i < length s) where
   here : sized_at field s i ≡ script_step field (sizes field) (before s i) (get_or s i 0) (drop (i + 1) s) (script_group (get_or s i 0) (drop (i + 1) s))
   unfolding sized_at
-  here = ap (sizes field (before s i)) (drop-step s i inside) ∙ size_step field (before s i) (get_or s i 0) (drop (i + 1) s)
+  here = ap (sizes field (before s i)) (drop-step s i inside) ∙ sizes-step field (before s i) (get_or s i 0) (drop (i + 1) s)
 
   module _ {r : Found} (f : Closes (drop (i + 1) s) r (script_group (get_or s i 0) (drop (i + 1) s))) where
     pub script-piece : {j : ℕ} → r ≡ At j → PieceFor field s i (Keep (j + 2))
