@@ -161,7 +161,7 @@ module _ (y : ℕ) (no_text : eqb y text_mark ≡ false) (no-roman : eqb y roman
   pub numbered-plain : (romans : List (List ℕ)) (r : ℕ) → numbered romans t r (y ∷ s) ≡ y ∷ numbered romans t r s
   unfolding numbered
   numbered-plain romans r =
-      ap₂ (λ m n. elim m as (λ _. List ℕ) [
+      ap₂ {A = Bool} {B = Bool} {C = List ℕ} (λ m n. elim m as (λ _. List ℕ) [
         | true ↦ placeholder t ++ numbered romans (suc t) r s
         | false ↦ elim n as (λ _. List ℕ) [
           | true ↦ elim romans as (λ _. List ℕ) [ [] ↦ placeholder r ++ numbered [] t (suc r) s | b ∷ bs ↦ placeholder r ++ numbered bs (t + marks b) (suc r) s ]
@@ -173,7 +173,7 @@ module _ (y : ℕ) (no_text : eqb y text_mark ≡ false) (no-roman : eqb y roman
   unfolding numbered_romans
   romans-plain [] = sym (romans-none t s)
   romans-plain (b ∷ bs) =
-      ap₂ (λ m n. elim m as (λ _. List (List ℕ)) [
+      ap₂ {A = Bool} {B = Bool} {C = List (List ℕ)} (λ m n. elim m as (λ _. List (List ℕ)) [
         | true ↦ numbered_romans (b ∷ bs) (suc t) s
         | false ↦ elim n as (λ _. List (List ℕ)) [
           | true ↦ numbered [] t 0 b ∷ numbered_romans bs (t + marks b) s

@@ -95,12 +95,12 @@ pub row-applied :
     → StagedWithin w w' p p' extra (sized extra (sweep (bounded b typst latex) 0 0)) × Untouched w w' p p' (bounded_match b typst ∷ [])
     → RowApplied w w' p p' extra kind row
 row-applied kind row {w} {w'} {p} {p'} {extra} {b} {typst} {latex} e f g a =
-    let by_Row =
+    let by_row =
     subst₂ (λ t l. StagedWithin w w' p p' extra (sized extra (sweep (bounded (bounds_of kind t) t l) 0 0)) × Untouched w w' p p' (bounded_match (bounds_of kind t) t ∷ [])) e f
     (subst (λ c. StagedWithin w w' p p' extra (sized extra (sweep (bounded c typst latex) 0 0)) × Untouched w w' p p' (bounded_match c typst ∷ [])) g a)
     in (
-      within-alike (sweep (row_rule kind row) 0 0) (rule-bounded kind row) by_Row.0,
-      untouched-alike (λ s none. ap (λ t. t || false) (match-bounded kind row s) ∙ none) by_Row.1,
+      within-alike (sweep (row_rule kind row) 0 0) (rule-bounded kind row) by_row.0,
+      untouched-alike (λ s none. ap (λ t. t || false) (match-bounded kind row s) ∙ none) by_row.1,
     )
 
 -- a row that is passed over, since its name is nowhere

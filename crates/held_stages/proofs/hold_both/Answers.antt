@@ -42,4 +42,4 @@ overflow_sub-result c =
 pub returns : goal.returns
 returns c =
     let first = c.hold_texts-first in
-    let opens = ap (contains (bytes "\\mathrm{")) (sym (whole_part first.result.at first.result.len _)) ∙ sym c.contains.ensures ∙ c.if-not-contains.false in record { held_from = both-counted c.requires first.ensures.0 c.hold_out-m.ensures; untouched = untouched-then (text_opening ∷ []) (roman_opening ∷ []) first.ensures.1 (untouched-matched refl (or_left false opens)) }
+    let opens = ap (contains (bytes "\\mathrm{")) (sym (whole_part first.result.at first.result.len _)) ∙ sym c.contains.ensures ∙ c.if-not-contains.false in record { held_from = both-counted c.requires first.ensures.held_from c.hold_out-m.ensures; untouched = untouched-then (text_opening ∷ []) (roman_opening ∷ []) first.ensures.untouched (untouched-matched refl (or_left false opens)) }

@@ -55,4 +55,4 @@ returns c =
     let table = c.args.table.now in let k = c.args.k in
     let typst = text-shown table (k * 36) c.end_of-typst_end.ensures in
     let latex = text-shown table (k * 36 + 16) c.end_of-latex_end.ensures in
-    let both = row-applied c.args.kind (row_at table k) typst latex c.bounds_of-bounds.ensures c.apply.ensures in record { staged_within = both.0; untouched = both.1 }
+    let both = row-applied c.args.kind (row_at table k) typst latex c.bounds_of-bounds.ensures (c.apply.ensures.staged_within, c.apply.ensures.untouched) in record { staged_within = both.0; untouched = both.1 }
