@@ -12,4 +12,4 @@ apply-requires c =
 
 pub returns : goal.returns
 returns c =
-    let both = applied c.requires.usable c.if-middle-start-eq1.false c.apply.ensures in record { staged_within = both.0; untouched = both.1 }
+    let both = applied c.requires.usable c.if-middle-start-eq1.false (c.apply.ensures.staged_within, c.apply.ensures.untouched) in record { staged_within = both.0; untouched = both.1 }
