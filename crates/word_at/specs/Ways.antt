@@ -69,17 +69,17 @@ runs-within b a = let t = b.to in let f = a.from in (omega arith, a.within)
 
 module _ {formula : List ℕ} (place : ℕ) (e : alnum (get_or formula place 0) ≡ true) {start end : ℕ} (b : BackTo formula place start (drop_while alnum (before formula place)))
     (a : AheadTo formula place end (drop_while alnum (drop place formula))) where
-  word-start : word_start formula place ≡ start
-  word-start = let h = pointed-inside formula place e in let t = b.to in ap length (sym b.left) ∙ length_before formula start (omega arith)
+  word-starts : word_start formula place ≡ start
+  word-starts = let h = pointed-inside formula place e in let t = b.to in ap length (sym b.left) ∙ length_before formula start (omega arith)
 
-  word_end : word_end formula place ≡ end
-  word_end = let h = a.within in let l = length-drop end formula in let m = ap length a.left in omega arith
+  word-ends : word_end formula place ≡ end
+  word-ends = let h = a.within in let l = length-drop end formula in let m = ap length a.left in omega arith
 
   pub points-word : {table : List ℕ} {w : WordPlace} → FindsWord formula table (passed (stands_for formula table start (end - start))) w → FindsWord formula table (pointed table place formula) w
   points-word {table} f =
       record {
         answers = f.answers
-            ∙ sym (rw (head-drop formula place, e) (ap₂ (λ at to. passed (stands_for formula table at (to - at))) word-start word_end));
+            ∙ sym (rw (head-drop formula place, e) (ap₂ (λ at to. passed (stands_for formula table at (to - at))) word-starts word-ends));
         lies = f.lies;
       }
 
