@@ -141,7 +141,7 @@ fn put_underset(
     m: usize,
 ) -> usize
     requires regions { Regions work.old from n to half_work (count + 16) }
-    requires regions_2 { Regions work.old base m to half_work (count + 16) }
+    requires base_regions { Regions work.old base m to half_work (count + 16) }
     ensures { Appended work.old work.new to half_work count result (latex_underset (part from n work.old) (part base m work.old)) × (result ≤ count + 2 * n + m + 17) }
 {
     let below = put_below(work, to, count, from, n);

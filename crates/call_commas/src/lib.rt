@@ -137,7 +137,7 @@ pub fn split_top_level_commas(s: &[u8], start: usize, quotes: Quotes) -> Part
     requires start_in_bounds { (start ≤ length s.now) × (length s.now ≤ most_symbols) }
     requires sees { Sees (over_quotes s.now) s.now start quotes.quoted }
     ensures splits { Splits (over_quotes s.now) start result.end }
-    ensures sees_2 { Sees (over_quotes s.now) s.now (result.end + 1) result.quotes.quoted }
+    ensures sees_next { Sees (over_quotes s.now) s.now (result.end + 1) result.quotes.quoted }
 {
     let Comma::At(k, behind) = find_comma(&s[start..], quotes) else {
         return Part {

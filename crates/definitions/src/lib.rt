@@ -54,7 +54,7 @@ fn apply_definition(
 fn apply_definitions(work: &mut [u8], text: Progress, extra: usize, table: &[u8]) -> Progress
     requires ready { Ready work.old text }
     requires fits_with_blocks { FitsWithBlocks extra text }
-    requires table_value { refused (definitions table.now) ≡ false }
+    requires not_refused { refused (definitions table.now) ≡ false }
     ensures staged_within { (ds : List Definition) → definitions table.now ≡ some ds → StagedWithin work.old work.new text result extra (sized_definitions extra (in_order ds)) }
     ensures untouched { (ds : List Definition) → definitions table.now ≡ some ds → Untouched work.old work.new text result (map defined_match ds) }
 {
@@ -73,7 +73,7 @@ fn apply_definitions(work: &mut [u8], text: Progress, extra: usize, table: &[u8]
 pub fn apply_definitions_outside_text(work: &mut [u8], text: Progress, table: &[u8]) -> Progress
     requires ready { Ready work.old text }
     requires unmarked_progress { UnmarkedProgress work.old text }
-    requires table_value { refused (definitions table.now) ≡ false }
+    requires not_refused { refused (definitions table.now) ≡ false }
     ensures answered { (ds : List Definition) → definitions table.now ≡ some ds → Answered work.old work.new text result (apply_definitions_outside_text ds) }
     ensures untouched { (ds : List Definition) → definitions table.now ≡ some ds → Untouched work.old work.new text result (text_opening ∷ map defined_match ds) }
 {

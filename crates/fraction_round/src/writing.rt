@@ -35,7 +35,7 @@ fn put_operand(work: &mut [u8], span: Span, to: usize, count: usize) -> usize
 fn put_fraction(work: &mut [u8], f: Operands, to: usize, count: usize) -> usize
     requires room { Room work.old to most_symbols count (6 + (f.num.end - f.num.start + (2 + (f.den.end - f.den.start + 1)))) }
     requires source { Source work.old f.num to }
-    requires source_2 { Source work.old f.den to }
+    requires den_source { Source work.old f.den to }
     ensures { Appended work.old work.new to most_symbols count result (fraction f work.old) }
 {
     let num = f.num;

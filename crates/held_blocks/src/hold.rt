@@ -43,7 +43,7 @@ fn put_place(work: &mut [u8], filed: usize, start: usize, long: usize) -> usize
 // Copies the block at `at` behind the others, and files its place. The result is how many bytes the blocks fill.
 fn keep(work: &mut [u8], at: usize, long: usize, used: usize, filed: usize) -> usize
     requires room { Room work.old blocks_at blocks_room used long }
-    requires room_2 { Room work.old places_at places_room filed 4 }
+    requires place_room { Room work.old places_at places_room filed 4 }
     requires long_bound { (at + long ≤ blocks_at) × ((used < 65536) × (long < 65536)) }
     ensures { BlockFiled work.old work.new at long used result filed }
 {

@@ -69,8 +69,8 @@ fn is_row(s: &[u8], table: &[u8], k: usize) -> bool
 
 // Whether the text is a name of the table, which has the Greek rows, LaTeX included.
 fn is_name(s: &[u8], table: &[u8]) -> bool
-    requires table_value { fair_table table.now ≡ true }
-    requires table_value_2 { rows_of table.now ≡ greek_letters }
+    requires fair { fair_table table.now ≡ true }
+    requires greek { rows_of table.now ≡ greek_letters }
     ensures { result ≡ one_of greek_names s.now }
 {
     let rows = table.len() / ROW;

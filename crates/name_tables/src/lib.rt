@@ -62,7 +62,7 @@ fn bounds_of(kind: NameKind, typst: &[u8]) -> Bounds
 fn is_row_nowhere(work: &[u8], text: Progress, seen: &[u8; 768], table: &[u8], k: usize) -> bool
     requires ready { Ready work.now text }
     requires seen_in { SeenIn seen.now work.now text }
-    requires k_value { fair_row table.now k ≡ true }
+    requires fair { fair_row table.now k ≡ true }
     ensures { result ≡ nowhere text work.now (row_at table.now k).typst }
 {
     let at = k * ROW;
@@ -82,7 +82,7 @@ fn apply_row(
 ) -> Progress
     requires ready { Ready work.old text }
     requires fits_with_blocks { FitsWithBlocks extra text }
-    requires k_value { fair_row table.now k ≡ true }
+    requires fair { fair_row table.now k ≡ true }
     ensures staged_within { StagedWithin work.old work.new text result extra (sized extra (sweep (row_rule kind (row_at table.now k)) 0 0)) }
     ensures untouched { Untouched work.old work.new text result (row_match kind (row_at table.now k) ∷ []) }
 {
@@ -114,7 +114,7 @@ pub fn apply_rows(
 ) -> Progress
     requires ready { Ready work.old text }
     requires fits_with_blocks { FitsWithBlocks extra text }
-    requires table_value { fair_table table.now ≡ true }
+    requires fair { fair_table table.now ≡ true }
     ensures staged_within { StagedWithin work.old work.new text result extra (sized_rows extra (row_rule kind) (rows_of table.now)) }
     ensures untouched { Untouched work.old work.new text result (map (row_match kind) (rows_of table.now)) }
 {

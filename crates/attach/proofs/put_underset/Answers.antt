@@ -9,7 +9,7 @@ copy-filled-requires c =
     let a = c.put_below-below.ensures in
     let l = appended-long a.0 in
     let few = a.1 in
-    let r = c.requires.regions in let q = c.requires.regions_2 in
+    let r = c.requires.regions in let q = c.requires.base_regions in
     record { room = record { region = omega arith; small = omega arith }; n_in_bounds = omega arith; apart = q.apart }
 
 pub put_all-requires : goal.put_all-requires
@@ -18,7 +18,7 @@ put_all-requires c =
     let b = c.copy-filled.ensures in
     let l = appended-long a.0 in let o = appended-long b in
     let few = a.1 in
-    let r = c.requires.regions in let q = c.requires.regions_2 in
+    let r = c.requires.regions in let q = c.requires.base_regions in
     let n = copied-long c.args.base c.args.m (omega arith) b in
     record { region = omega arith; small = omega arith }
 
@@ -27,9 +27,9 @@ returns c =
     let a = c.put_below-below.ensures in
     let b = c.copy-filled.ensures in
     let d = c.put_all.ensures in
-    let same = appended-part a.0 c.args.base c.args.m c.requires.regions_2.apart in
+    let same = appended-part a.0 c.args.base c.args.m c.requires.base_regions.apart in
     let l = appended-long a.0 in
     let few = a.1 in let m = d.counted in
-    let q = c.requires.regions_2 in
+    let q = c.requires.base_regions in
     let n = copied-long c.args.base c.args.m (omega arith) b in
     (appended-more (appended-more a.0 (rw same at b)) d, omega arith)

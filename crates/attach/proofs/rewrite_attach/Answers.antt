@@ -56,7 +56,7 @@ put_underset-written-requires c =
         short = omega arith;
         small = omega arith;
       };
-      regions_2 = record {
+      base_regions = record {
         source = omega arith;
         region = omega arith;
         apart = apart c.args.from c.args.n c.args.to (c.args.from + base.start) (base.end - base.start) c.requires.regions.apart (omega arith) (omega arith);

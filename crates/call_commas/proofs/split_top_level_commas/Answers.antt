@@ -9,12 +9,12 @@ find_comma-requires c = simp (length-take, length-drop) (omega arith)
 
 pub returns-in_default : goal.returns-in_default
 returns-in_default c =
-    let both = seen-splits-end c.requires.start_in_bounds.0 c.requires.sees c.find_comma.ensures c.in_default.is in record { splits = both.0; sees_2 = both.1 }
+    let both = seen-splits-end c.requires.start_in_bounds.0 c.requires.sees c.find_comma.ensures c.in_default.is in record { splits = both.0; sees_next = both.1 }
 
 -- the comma that has been found ends the part
 pub returns : goal.returns
 returns c =
-    let both = seen-splits-at c.requires.start_in_bounds.0 c.requires.sees c.find_comma.ensures c.in-At.is in record { splits = both.0; sees_2 = both.1 }
+    let both = seen-splits-at c.requires.start_in_bounds.0 c.requires.sees c.find_comma.ensures c.in-At.is in record { splits = both.0; sees_next = both.1 }
 
 pub overflow_add-end : goal.overflow_add-end
 overflow_add-end c =

@@ -32,7 +32,7 @@ returns-in_default c =
 
 pub apply_definition-done-requires : goal.apply_definition-done-requires
 apply_definition-done-requires c =
-    let known = not-refused (definitions c.args.table.now) c.requires.table_value in
+    let known = not-refused (definitions c.args.table.now) c.requires.not_refused in
     let step = next-remaining c.next.ensures (listed-distinct c.args.table.now known.0 known.1) c.in-Whole.is in
     let stands : ReadingLies c.args.table.now (Whole c.in-Whole.found) = subst (ReadingLies c.args.table.now) c.in-Whole.is c.next.ensures.stands in
     let left = c.loop-found.invariant.1.1 known.0 known.1 in
@@ -40,13 +40,13 @@ apply_definition-done-requires c =
 
 pub loop-found-smaller : goal.loop-found-smaller
 loop-found-smaller c =
-    let known = not-refused (definitions c.args.table.now) c.requires.table_value in
+    let known = not-refused (definitions c.args.table.now) c.requires.not_refused in
     let step = next-remaining c.next.ensures (listed-distinct c.args.table.now known.0 known.1) c.in-Whole.is in
     let e = ap length step in omega arith
 
 pub loop-found-preserved : goal.loop-found-preserved
 loop-found-preserved c =
-    let known = not-refused (definitions c.args.table.now) c.requires.table_value in
+    let known = not-refused (definitions c.args.table.now) c.requires.not_refused in
     let step = next-remaining c.next.ensures (listed-distinct c.args.table.now known.0 known.1) c.in-Whole.is in
     let stands : ReadingLies c.args.table.now (Whole c.in-Whole.found) = subst (ReadingLies c.args.table.now) c.in-Whole.is c.next.ensures.stands in (
       stands-lies stands,

@@ -27,7 +27,7 @@ put_all_back-requires c =
     let from = c.hold_texts-held.ensures.held_from in
     let source = part c.in-Text.from c.in-Text.n c.args.work.now in
     let extra = c.hold_texts-held.result.extra in
-    let known = not-refused (definitions c.args.table.now) c.requires.table_value in
+    let known = not-refused (definitions c.args.table.now) c.requires.not_refused in
     let kept = definitions-kept extra (in_order known.0) (order-sound c.args.table.now known.0 known.1) (hold_texts source) from.extra from.well-made in
     let staged = c.apply_definitions-defined.ensures.staged_within known.0 known.1 in
     record { held = hold_texts source; carries = carries-staged from staged kept }

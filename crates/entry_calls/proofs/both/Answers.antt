@@ -7,4 +7,4 @@ pub returns : goal.returns
 returns c =
     let second = c.typst_to_latex-2.ensures in
     let first = c.typst_to_latex.ensures in
-    record { call = first; call_2 = second; by_index = λ n m. outputs-apart first second }
+    record { first = first; second = second; apart = λ n m. outputs-apart first second }

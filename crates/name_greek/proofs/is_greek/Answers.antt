@@ -5,4 +5,4 @@ use Rattle.name_greek.proofs.is_greek.Goals as goal
 
 pub is_name-requires : goal.is_name-requires
 unfolding fair_table rows_of
-is_name-requires c = record { table_value = refl; table_value_2 = refl }
+is_name-requires c = record { fair = refl; greek = refl }

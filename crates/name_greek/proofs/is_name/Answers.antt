@@ -10,11 +10,11 @@ use Rattle.name_greek.proofs.is_name.Goals as goal
 
 pub loop-k-init : goal.loop-k-init
 loop-k-init c =
-    ap (λ rs. one_of (typsts rs) c.args.s.now) (rows_all c.args.table.now ∙ c.requires.table_value_2)
+    ap (λ rs. one_of (typsts rs) c.args.s.now) (rows_all c.args.table.now ∙ c.requires.greek)
 
 pub is_row-requires : goal.is_row-requires
 is_row-requires c =
-    fair-at c.args.table.now c.loop-k.k c.requires.table_value c.loop-k-test.true
+    fair-at c.args.table.now c.loop-k.k c.requires.fair c.loop-k-test.true
 
 pub returns-then-is_row : goal.returns-then-is_row
 returns-then-is_row c =

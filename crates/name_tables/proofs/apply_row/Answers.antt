@@ -8,39 +8,39 @@ use Rattle.name_tables.specs.Kinds.{row-fair, row-applied}
 use Rattle.name_tables.proofs.apply_row.Goals as goal
 
 pub overflow_mul-at : goal.overflow_mul-at
-overflow_mul-at c = let w = row_within c.args.table.now c.args.k c.requires.k_value in omega arith
+overflow_mul-at c = let w = row_within c.args.table.now c.args.k c.requires.fair in omega arith
 
 pub overflow_add-middle : goal.overflow_add-middle
-overflow_add-middle c = let w = row_within c.args.table.now c.args.k c.requires.k_value in omega arith
+overflow_add-middle c = let w = row_within c.args.table.now c.args.k c.requires.fair in omega arith
 
 pub overflow_add-typst : goal.overflow_add-typst
-overflow_add-typst c = let w = row_within c.args.table.now c.args.k c.requires.k_value in omega arith
+overflow_add-typst c = let w = row_within c.args.table.now c.args.k c.requires.fair in omega arith
 
 pub end_of-typst_end-requires : goal.end_of-typst_end-requires
-end_of-typst_end-requires c = let w = row_within c.args.table.now c.args.k c.requires.k_value in omega arith
+end_of-typst_end-requires c = let w = row_within c.args.table.now c.args.k c.requires.fair in omega arith
 
 pub overflow_add-latex : goal.overflow_add-latex
-overflow_add-latex c = let w = row_within c.args.table.now c.args.k c.requires.k_value in omega arith
+overflow_add-latex c = let w = row_within c.args.table.now c.args.k c.requires.fair in omega arith
 
 pub end_of-latex_end-requires : goal.end_of-latex_end-requires
-end_of-latex_end-requires c = let w = row_within c.args.table.now c.args.k c.requires.k_value in omega arith
+end_of-latex_end-requires c = let w = row_within c.args.table.now c.args.k c.requires.fair in omega arith
 
 pub slice_bounds-bounds_of-end : goal.slice_bounds-bounds_of-end
 slice_bounds-bounds_of-end c =
-    let w = row_within c.args.table.now c.args.k c.requires.k_value in
-    let t = typst-fits c.args.table.now c.args.k c.requires.k_value in let e = c.end_of-typst_end.ensures in
+    let w = row_within c.args.table.now c.args.k c.requires.fair in
+    let t = typst-fits c.args.table.now c.args.k c.requires.fair in let e = c.end_of-typst_end.ensures in
     omega arith
 
 pub slice_bounds-apply-end : goal.slice_bounds-apply-end
 slice_bounds-apply-end c =
-    let w = row_within c.args.table.now c.args.k c.requires.k_value in
-    let t = typst-fits c.args.table.now c.args.k c.requires.k_value in let e = c.end_of-typst_end.ensures in
+    let w = row_within c.args.table.now c.args.k c.requires.fair in
+    let t = typst-fits c.args.table.now c.args.k c.requires.fair in let e = c.end_of-typst_end.ensures in
     omega arith
 
 pub slice_bounds-apply-end-2 : goal.slice_bounds-apply-end-2
 slice_bounds-apply-end-2 c =
-    let w = row_within c.args.table.now c.args.k c.requires.k_value in
-    let t = latex-fits c.args.table.now c.args.k c.requires.k_value in let e = c.end_of-latex_end.ensures in
+    let w = row_within c.args.table.now c.args.k c.requires.fair in
+    let t = latex-fits c.args.table.now c.args.k c.requires.fair in let e = c.end_of-latex_end.ensures in
     omega arith
 
 pub apply-requires : goal.apply-requires
@@ -48,7 +48,7 @@ apply-requires c =
     let table = c.args.table.now in let k = c.args.k in
     let typst = text-shown table (k * 36) c.end_of-typst_end.ensures in
     let latex = text-shown table (k * 36 + 16) c.end_of-latex_end.ensures in
-    record { ready = c.requires.ready; fits_with_blocks = c.requires.fits_with_blocks; entry_texts_fit = subst₂ EntryTextsFit (sym typst) (sym latex) (row-fair table k c.requires.k_value) }
+    record { ready = c.requires.ready; fits_with_blocks = c.requires.fits_with_blocks; entry_texts_fit = subst₂ EntryTextsFit (sym typst) (sym latex) (row-fair table k c.requires.fair) }
 
 pub returns : goal.returns
 returns c =

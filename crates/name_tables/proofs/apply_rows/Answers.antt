@@ -24,7 +24,7 @@ loop-k-init c =
 
 pub is_row_nowhere-requires : goal.is_row_nowhere-requires
 is_row_nowhere-requires c =
-    record { ready = remaining-ready c.loop-k.invariant.1 c.requires.ready; seen_in = c.loop-k.invariant.2; k_value = fair-at c.args.table.now c.loop-k.k c.requires.table_value c.loop-k-test.true }
+    record { ready = remaining-ready c.loop-k.invariant.1 c.requires.ready; seen_in = c.loop-k.invariant.2; fair = fair-at c.args.table.now c.loop-k.k c.requires.fair c.loop-k-test.true }
 
 pub overflow_add-k : goal.overflow_add-k
 overflow_add-k c =
@@ -38,7 +38,7 @@ pub loop-k-preserved-then-is_row_nowhere : goal.loop-k-preserved-then-is_row_now
 loop-k-preserved-then-is_row_nowhere c =
     let rule = row_rule c.args.kind in let table = c.args.table.now in
     let rest = sized_rows c.args.extra rule (rows_from table (c.loop-k.k + 1) (length table / 36 - (c.loop-k.k + 1))) in
-    let fair = row-fair table c.loop-k.k (fair-at table c.loop-k.k c.requires.table_value c.loop-k-test.true) in
+    let fair = row-fair table c.loop-k.k (fair-at table c.loop-k.k c.requires.fair c.loop-k-test.true) in
     let passed = row-nowhere c.args.kind (row_at table c.loop-k.k) c.args.extra fair (remaining-ready c.loop-k.invariant.1 c.requires.ready) c.loop-k.invariant.1.within (sym c.is_row_nowhere.ensures ∙ c.if-is_row_nowhere.true) in (
       c.loop-k.invariant.0,
       remaining-step c.loop-k.invariant.1 rest passed.0 (λ t. rows_step c.args.extra rule table c.loop-k.k (length table / 36) t c.loop-k-test.true),
@@ -49,7 +49,7 @@ loop-k-preserved-then-is_row_nowhere c =
 
 pub apply_row-done-requires : goal.apply_row-done-requires
 apply_row-done-requires c =
-    record { ready = remaining-ready c.loop-k.invariant.1 c.requires.ready; fits_with_blocks = c.loop-k.invariant.1.within; k_value = fair-at c.args.table.now c.loop-k.k c.requires.table_value c.loop-k-test.true }
+    record { ready = remaining-ready c.loop-k.invariant.1 c.requires.ready; fits_with_blocks = c.loop-k.invariant.1.within; fair = fair-at c.args.table.now c.loop-k.k c.requires.fair c.loop-k-test.true }
 
 pub mark-requires-in-loop-k : goal.mark-requires-in-loop-k
 mark-requires-in-loop-k c =

@@ -9,7 +9,7 @@ use Rattle.name_words.proofs.convert_functions.Goals as goal
 
 pub apply_rows-requires : goal.apply_rows-requires
 unfolding fair_table
-apply_rows-requires c = record { ready = c.requires; fits_with_blocks = within_none c.args.text c.requires; table_value = refl }
+apply_rows-requires c = record { ready = c.requires; fits_with_blocks = within_none c.args.text c.requires; fair = refl }
 
 pub returns : goal.returns
 unfolding rows_of

@@ -21,11 +21,11 @@ hold_both-held-requires c =
 
 pub apply_rows-greek-requires : goal.apply_rows-greek-requires
 unfolding fair_table
-apply_rows-greek-requires c = record { ready = search rules; fits_with_blocks = search rules; table_value = refl }
+apply_rows-greek-requires c = record { ready = search rules; fits_with_blocks = search rules; fair = refl }
 
 pub apply_rows-words-requires : goal.apply_rows-words-requires
 unfolding fair_table
-apply_rows-words-requires c = record { ready = search rules; fits_with_blocks = search rules; table_value = refl }
+apply_rows-words-requires c = record { ready = search rules; fits_with_blocks = search rules; fair = refl }
 
 pub put_all_back-requires : goal.put_all_back-requires
 unfolding rows_of

@@ -9,7 +9,7 @@ use Rattle.stages.proofs.apply_definitions_outside_text.Goals as goal
 pub apply_definitions_outside_text-requires : goal.apply_definitions_outside_text-requires
 apply_definitions_outside_text-requires c =
     let w = c.args.work.now in
-    record { ready = c.requires.ready; unmarked_progress = bare-unmarked w c.args.text c.requires.admissible.bare; table_value = ap refused (fit-sound w c.in-Text.is c.requires.admissible) }
+    record { ready = c.requires.ready; unmarked_progress = bare-unmarked w c.args.text c.requires.admissible.bare; not_refused = ap refused (fit-sound w c.in-Text.is c.requires.admissible) }
 
 pub returns : goal.returns
 returns c =

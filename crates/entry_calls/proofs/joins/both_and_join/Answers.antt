@@ -8,4 +8,4 @@ returns c =
     let join = c.typst_to_latex-3.ensures in
     let second = c.typst_to_latex-2.ensures in
     let first = c.typst_to_latex.ensures in
-    record { call = first; call_2 = second; call_3 = join; by_index = (λ k n m. outputs-join first second join); by_index_2 = (λ k. first_done first join); by_index_3 = (λ k. second-done second join) }
+    record { first = first; second = second; whole = join; joins = (λ k n m. outputs-join first second join); first_accepted = (λ k. first_done first join); second_accepted = (λ k. second-done second join) }

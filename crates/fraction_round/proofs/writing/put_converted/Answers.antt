@@ -19,7 +19,7 @@ put_fraction-requires c =
     let left = c.saturating_sub-left.ensures in
     let region = c.requires.regions.region in
     let small = c.requires.regions.small in
-    record { room = record { region = region; small = omega arith }; source = num-source c.requires.regions c.requires.n_le_most_symbols ord; source_2 = den-source c.requires.regions c.requires.n_le_most_symbols ord }
+    record { room = record { region = region; small = omega arith }; source = num-source c.requires.regions c.requires.n_le_most_symbols ord; den_source = den-source c.requires.regions c.requires.n_le_most_symbols ord }
 
 pub shape_of-work : goal.shape_of-work
 shape_of-work c = appended-long c.put_fraction.ensures

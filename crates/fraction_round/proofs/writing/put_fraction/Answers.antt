@@ -33,7 +33,7 @@ put_operand-below-requires c =
     let a₃ = c.put_all-halved.ensures in
     let r₁ = room-left (n + (2 + (m + 1))) a₁ c.requires.room in
     let r₂ = room-operand _ f.num (2 + (m + 1)) a₂ r₁ in
-    record { room = room-less m (room-left (m + 1) a₃ r₂) (omega arith); source = source-kept a₃ (source-kept a₂ (source-kept a₁ c.requires.source_2)) }
+    record { room = room-less m (room-left (m + 1) a₃ r₂) (omega arith); source = source-kept a₃ (source-kept a₂ (source-kept a₁ c.requires.den_source)) }
 
 pub put_all-requires : goal.put_all-requires
 put_all-requires c =
@@ -61,4 +61,4 @@ returns c =
     let a₃ = c.put_all-halved.ensures in
     let a₄ = c.put_operand-below.ensures in
     let a₅ = c.put_all.ensures in
-    appended-fraction c.args.f c.requires.source c.requires.source_2 a₁ a₂ a₃ a₄ a₅
+    appended-fraction c.args.f c.requires.source c.requires.den_source a₁ a₂ a₃ a₄ a₅

@@ -142,7 +142,7 @@ keep-full-requires c =
     let x = h.used-bounded in
     let y = o.few in
     let source = o.source in
-    record { room = record { region = omega arith; small = r.small }; room_2 = record { region = omega arith; small = p.small }; long_bound = (omega arith, (omega arith, omega arith)) }
+    record { room = record { region = omega arith; small = r.small }; place_room = record { region = omega arith; small = p.small }; long_bound = (omega arith, (omega arith, omega arith)) }
 
 pub overflow_add-listed : goal.overflow_add-listed
 overflow_add-listed c =
