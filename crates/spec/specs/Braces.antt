@@ -1,7 +1,7 @@
 -- Braces matched by a stack, and what document 02's A10 says of the brace step. Assumes nothing.
 --     opener_of         the opener that a closer matches
 --     inserted         a text with backslashes inserted
---     EscapesBraces    what the brace step does to a text: `set-braces` in `Laws/Braces` says that it does
+--     EscapesBraces    what the brace step does to a text: `set-braces` in proofs/Braces says that it does
 use Rattle.std.specs.Prelude.{◌≡◌, Bool, true, false, not, cond, ◌||◌, List, [], ◌∷◌, ◌++◌, ◌⊎◌, ℕ, suc, eqb, take, get_or}
 use Rattle.std.proofs.Math.Option.{Option, none, some}
 use Prim.Native.Char.{code}
