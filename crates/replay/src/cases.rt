@@ -2,6 +2,8 @@
 ghost use Rattle.std.specs.Prelude.{◌≡◌, ◌+◌, ◌*◌, ◌<◌, ◌≤◌, length, slice_index};
 ghost use Rattle.replay.specs.Fits.{Whole};
 
+use std::io::Read;
+
 // The longest buffers, and the longest formula and table together, that there is room for.
 pub const MOST_WORK: usize = 40_960;
 
@@ -39,43 +41,44 @@ pub enum NextCase {
     Broken,
 }
 
-pub fn read_head(fd: i32) -> Head {
+pub fn read_head<R: Read>(file: &mut R) -> Head {
     let mut line = [0; 17];
     let mut count = [0; 4];
-    io::read_full(fd, &mut line);
-    if io::read_full(fd, &mut count) < 4 {
+    if file.read_exact(&mut line).is_err() {
         return Head::Other;
     }
-    if !check::same(&line, b"jistranu cases 2\n") {
+    if file.read_exact(&mut count).is_err() {
+        return Head::Other;
+    }
+    if line != *b"jistranu cases 2\n" {
         return Head::Other;
     }
     Head::Cases(four(&count, 0))
 }
 
 // The next case, whose formula, table and LaTeX come to stand in the body.
-pub fn read_case(fd: i32, body: &mut [u8]) -> NextCase
+pub fn read_case<R: Read>(file: &mut R, body: &mut [u8]) -> NextCase
     requires { 65536 ≤ length body.old }
     ensures { Whole result }
 {
     let mut header = [0; HEADER];
-    let n = io::read_full(fd, &mut header);
-    if n < HEADER {
+    if file.read_exact(&mut header).is_err() {
         return NextCase::Broken;
     }
     let NextCase::Whole(case) = fitting(case_of(&header)) else {
         return NextCase::Broken;
     };
     let size = case.formula + case.table + case.latex;
-    if io::read_full(fd, &mut body[..size]) < size {
+    if file.read_exact(&mut body[..size]).is_err() {
         return NextCase::Broken;
     }
     NextCase::Whole(case)
 }
 
 // Whether nothing is left to read.
-pub fn is_at_end(fd: i32) -> bool {
+pub fn is_at_end<R: Read>(file: &mut R) -> bool {
     let mut one = [0; 1];
-    io::read_full(fd, &mut one) == 0
+    file.read_exact(&mut one).is_err()
 }
 
 fn case_of(header: &[u8]) -> Case
