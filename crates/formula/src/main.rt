@@ -11,8 +11,7 @@ use std::rt::Files;
 
 fn main(rt: HostRuntime) {
     let mut input = [0; INPUT];
-    let BytesRead::Bytes(n) =
-        reading::read_all(&rt, &mut rt.reader(), "standard input", &mut input)
+    let BytesRead::Bytes(n) = reading::read_all(&rt, &mut rt.reader(), "standard input", &mut input)
     else {
         return;
     };

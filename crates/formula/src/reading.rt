@@ -1,8 +1,7 @@
 // Reading into a buffer: as many bytes as there are, or as fit.
-use std::fs;
-use std::io;
 use std::io::{ErrorKind, Read};
 use std::rt::Files;
+use std::{fs, io};
 
 // How many bytes have been read, or that reading failed, which has been said.
 #[derive(Clone, Copy)]

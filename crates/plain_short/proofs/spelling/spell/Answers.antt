@@ -6,8 +6,7 @@ pub loop-left-preserved : goal.loop-left-preserved
 loop-left-preserved c =
     let l = c.loop-left in
     let room = spelling-room l.invariant.0 (omega arith) in
-    let digits = div-add-mod' (l.left - 1) 11 in
-    (
+    let digits = div-add-mod' (l.left - 1) 11 in (
       spelling-goes-on l.invariant.0 ((l.left - 1) / 11) ((l.left - 1) % 11) (l.start - 1) (omega arith) (mod-lt _ (omega arith)) (omega arith),
       rw length-set l.invariant.1,
     )
