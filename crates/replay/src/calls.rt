@@ -4,7 +4,7 @@ ghost use Rattle.spec.specs.Result.{most_symbols};
 ghost use Rattle.replay.specs.Fits.{CaseFits};
 ghost use Rattle.replay.specs.Recorded.{Vouched, Agrees, recorded};
 
-use super::cases::{Case, MOST_OUTPUT, MOST_WORK};
+use super::case_file::{Case, MOST_OUTPUT, MOST_WORK};
 use super::summary::tell;
 use math_conv::Answer;
 use std::io;

@@ -5,13 +5,13 @@
 #![tactic(auto)]
 
 mod calls;
-mod cases;
+mod case_file;
 mod summary;
 
 ghost use Rattle.std.specs.Prelude.{◌≤◌, length, IfOk};
 ghost use Rattle.replay.specs.Fits.{CaseFits};
 
-use cases::{Case, Head, NextCase};
+use case_file::{Case, Head, NextCase};
 use std::io::Read;
 use std::{fs, io};
 use summary::TALLY;
@@ -32,7 +32,7 @@ fn main(rt: HostRuntime) -> io::Result<()> {
 }
 
 fn replay_file<R: Read>(rt: &impl Print, file: &mut R) -> io::Result<()> {
-    let Head::Cases(count) = cases::read_head(file) else {
+    let Head::Cases(count) = case_file::read_head(file) else {
         return println!(rt; "cases.bin is no file of cases");
     };
     let mut tally = [0; TALLY];
@@ -40,7 +40,7 @@ fn replay_file<R: Read>(rt: &impl Print, file: &mut R) -> io::Result<()> {
     if replayed < count {
         return println!(rt; "cases.bin breaks off in case {replayed}");
     }
-    if !cases::is_at_end(file) {
+    if !case_file::is_at_end(file) {
         return println!(rt; "cases.bin goes on behind its last case");
     }
     summary::write_summary(rt, count as u64, &tally)
@@ -70,7 +70,7 @@ fn replay_next<R: Read>(
     tally: &mut [u64; TALLY],
 ) -> io::Result<bool> {
     let mut body = [0; BODY];
-    let NextCase::Whole(case) = cases::read_case(file, &mut body) else {
+    let NextCase::Whole(case) = case_file::read_case(file, &mut body) else {
         return Ok(false);
     };
     summary::note(tally, case);

@@ -1,6 +1,6 @@
 // What the program writes: the cases that went wrong, and the summary.
 use super::calls::Difference;
-use super::cases::Case;
+use super::case_file::Case;
 use std::io;
 
 // A tally has the cases by their number, up to 15, then those with display off, those under another tall field than 31, those with definitions and
