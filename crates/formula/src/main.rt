@@ -6,31 +6,37 @@
 mod reading;
 
 use formula_text::{INPUT, OUTPUT, TABLE, TEXT, WORK};
-use libc::{STDIN_FILENO, STDOUT_FILENO};
 use reading::BytesRead;
+use std::rt::Files;
 
-fn main() {
+fn main(rt: HostRuntime) {
     let mut input = [0; INPUT];
-    let BytesRead::Bytes(n) = reading::read_all(STDIN_FILENO, b"standard input", &mut input) else {
+    let BytesRead::Bytes(n) = reading::read_all(&rt, &mut rt.reader(), "standard input", &mut input)
+    else {
         return;
     };
     let mut table = [0; TABLE];
-    let BytesRead::Bytes(m) = read_table(&input, n, &mut table) else {
+    let BytesRead::Bytes(m) = read_table(&rt, &input, n, &mut table) else {
         return;
     };
     let mut work = [0; WORK];
     let mut output = [0; OUTPUT];
     let mut text = [0; TEXT];
     let count = formula_text::answer(&input, n, &table, m, &mut work, &mut output, &mut text);
-    if !io::write_all(STDOUT_FILENO, &text[..count]) {
-        os::fail(b"standard output");
+    if let Err(why) = rt.write_all(&text[..count]) {
+        reading::say_failed(&rt, "standard output", why);
     }
 }
 
 // A table that the answer does not depend on is not read.
-fn read_table(input: &[u8; INPUT], n: usize, table: &mut [u8]) -> BytesRead {
+fn read_table<R: Files + Eprint + Alloc>(
+    rt: &R,
+    input: &[u8; INPUT],
+    n: usize,
+    table: &mut [u8],
+) -> BytesRead {
     if !formula_text::wants_table(input, n) {
         return BytesRead::Bytes(0);
     }
-    reading::read_file(b"sheet.defs", table)
+    reading::read_file(rt, "sheet.defs", table)
 }

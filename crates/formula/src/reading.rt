@@ -1,4 +1,7 @@
 // Reading into a buffer: as many bytes as there are, or as fit.
+use std::io::{ErrorKind, Read};
+use std::rt::Files;
+use std::{fs, io};
 
 // How many bytes have been read, or that reading failed, which has been said.
 #[derive(Clone, Copy)]
@@ -8,34 +11,45 @@ pub enum BytesRead {
 }
 
 // Reads until the buffer is full or the input ends, in pieces of any size.
-pub fn read_all(fd: i32, name: &[u8], buffer: &mut [u8]) -> BytesRead {
-    let mut n = 0;
-    while n < buffer.len() {
-        let got = libc::read(fd, &mut buffer[n..]);
-        if got < 0 {
-            os::fail(name);
-            return BytesRead::Failed;
+pub fn read_all<R: Eprint + Alloc, S: Read>(
+    rt: &R,
+    source: &mut S,
+    name: &str,
+    buffer: &mut [u8],
+) -> BytesRead {
+    match filling::read_full(source, buffer) {
+        Ok(n) => BytesRead::Bytes(n),
+        Err(why) => {
+            say_failed(rt, name, why);
+            BytesRead::Failed
         }
-        let more = io::count(got, &buffer[n..]);
-        if more == 0 {
-            return BytesRead::Bytes(n);
-        }
-        n += more;
     }
-    BytesRead::Bytes(n)
 }
 
 // The same of a file. One that is absent has no bytes.
-pub fn read_file(name: &[u8], buffer: &mut [u8]) -> BytesRead {
-    let fd = os::open_read(name);
-    if fd < 0 {
-        if os::errno() == libc::ENOENT {
-            return BytesRead::Bytes(0);
+pub fn read_file<R: Files + Eprint + Alloc>(rt: &R, name: &str, buffer: &mut [u8]) -> BytesRead {
+    match fs::open(rt, name) {
+        Ok(mut file) => read_all(rt, &mut file, name, buffer),
+        Err(why) if why.kind() == ErrorKind::NotFound => BytesRead::Bytes(0),
+        Err(why) => {
+            say_failed(rt, name, why);
+            BytesRead::Failed
         }
-        os::fail(name);
-        return BytesRead::Failed;
     }
-    let taken = read_all(fd, name, buffer);
-    libc::close(fd);
-    taken
+}
+
+// Says on standard error what could not be read or written, and why, in the system's words. Where even that cannot be written, nothing is left to do.
+pub fn say_failed<R: Eprint + Alloc>(rt: &R, name: &str, why: io::Error) {
+    let _ = match why.to_string(rt.alloc()) {
+        Ok(text) => eprintln!(rt; "{name}: {}", without_number(text.as_str())),
+        Err(_) => eprintln!(rt; "{name}: {why}"),
+    };
+}
+
+// std writes the error's number behind the system's words, in parentheses.
+fn without_number(text: &str) -> &str {
+    match text.split_once(" (os error ") {
+        Some((words, _)) => words,
+        None => text,
+    }
 }

@@ -6,29 +6,33 @@ ghost use Rattle.std.specs.Prelude.{◌≤◌};
 
 use case_input::Next;
 use formula_text::{INPUT, OUTPUT, TABLE, TEXT, WORK};
+use std::io;
+use std::io::Read;
 
 // More than there are.
 const CASES: usize = 1_000;
 
-fn main() {
+fn main(rt: HostRuntime) -> io::Result<()> {
+    let mut cases = rt.reader();
     for _ in 0..CASES {
-        if !answer_next() {
-            return;
+        if !answer_next(&rt, &mut cases)? {
+            return Ok(());
         }
     }
+    Ok(())
 }
 
 // Whether there was a case.
-fn answer_next() -> bool {
-    let Next::Case(n, m) = case_input::next_case(INPUT, TABLE) else {
-        return false;
+fn answer_next<R: Read>(rt: &impl Print, cases: &mut R) -> io::Result<bool> {
+    let Next::Case(n, m) = case_input::next_case(cases, INPUT, TABLE)? else {
+        return Ok(false);
     };
-    answer(n, m);
-    true
+    answer(rt, cases, n, m)?;
+    Ok(true)
 }
 
 // What stands behind the bytes that are read, or in the buffers before, must not count, so it is no zeros.
-fn answer(n: usize, m: usize)
+fn answer<R: Read>(rt: &impl Print, cases: &mut R, n: usize, m: usize) -> io::Result<()>
     requires { (n ≤ 4099) × (m ≤ 32769) }
 {
     let mut input = [b'd'; INPUT];
@@ -36,8 +40,8 @@ fn answer(n: usize, m: usize)
     let mut work = [b'd'; WORK];
     let mut output = [b'd'; OUTPUT];
     let mut text = [b'd'; TEXT];
-    io::read_full(0, &mut input[..n]);
-    io::read_full(0, &mut table[..m]);
+    filling::read_full(cases, &mut input[..n])?;
+    filling::read_full(cases, &mut table[..m])?;
     let count = formula_text::answer(&input, n, &table, m, &mut work, &mut output, &mut text);
-    io::write_all(1, &text[..count]);
+    rt.write_all(&text[..count])
 }

@@ -5,11 +5,12 @@
 mod printed;
 mod spelling;
 
-ghost use Rattle.std.specs.Prelude.{◌≡◌, ◌<◌, length};
+ghost use Rattle.std.specs.Prelude.{◌≡◌, ◌<◌, length, IfOk, OnErr};
 ghost use Rattle.plain_short.specs.Printed.{PrintedRoom};
 
 use printed::print;
 use spelling::spell;
+use std::io;
 
 // The number of texts of up to 5 symbols.
 const TEXTS: usize = 177_156;
@@ -22,22 +23,19 @@ struct Tally {
     used: usize,
 }
 
-fn main() {
-    let mut printed = io::large_buffer();
-    summarize(try_all(&mut printed));
+fn main(rt: HostRuntime) -> io::Result<()> {
+    let mut printed = [0; printed::ROOM];
+    summarize(&rt, try_all(&rt, &mut printed)?)
 }
 
-fn summarize(tally: Tally) {
-    io::print_decimal(1, TEXTS as u64);
-    io::write_all(1, b" texts, ");
-    io::print_decimal(1, tally.plain);
-    io::write_all(1, b" plain, ");
-    io::print_decimal(1, tally.different);
-    io::write_all(1, b" different LaTeX texts\n");
+fn summarize(rt: &impl Print, tally: Tally) -> io::Result<()> {
+    let plain = tally.plain;
+    let different = tally.different;
+    println!(rt; "{TEXTS} texts, {plain} plain, {different} different LaTeX texts")
 }
 
 // Tries the texts one after another.
-fn try_all(printed: &mut [u8]) -> Tally
+fn try_all(rt: &impl Print, printed: &mut [u8]) -> io::Result<Tally>
     requires { length printed.old ≡ 65536 }
 {
     let mut tally = Tally {
@@ -46,31 +44,30 @@ fn try_all(printed: &mut [u8]) -> Tally
         used: 0,
     };
     for number in 0..TEXTS {
-        tally = try_text(number, printed, tally);
+        tally = try_text(rt, number, printed, tally)?;
     }
-    tally
+    Ok(tally)
 }
 
 // Checks text `number`. If it is plain, writes its line and keeps what it prints.
-fn try_text(number: usize, printed: &mut [u8], tally: Tally) -> Tally
+fn try_text(rt: &impl Print, number: usize, printed: &mut [u8], tally: Tally) -> io::Result<Tally>
     requires number_bound { number < 177156 }
     requires printed_room { PrintedRoom printed.old tally.used }
-    ensures { PrintedRoom printed.new result.used }
+    ensures ok { IfOk result (λ t. PrintedRoom printed.new t.used) }
+    ensures err { OnErr result (printed.new ≡ printed.old) }
 {
     let mut text = [0; 5];
     let start = spell(number, &mut text);
     let formula = &text[start..];
     let plain_check::PlainAnswer::Yes(atoms) = plain_check::plain_check(formula) else {
-        return tally;
+        return Ok(tally);
     };
-    io::write_all(1, formula);
-    io::write_all(1, b"\t");
-    io::print_decimal(1, atoms as u64);
-    io::write_all(1, b"\t");
-    let used = print(formula, printed, tally.used);
-    Tally {
+    rt.write_all(formula)?;
+    print!(rt; "\t{atoms}\t")?;
+    let used = print(rt, formula, printed, tally.used)?;
+    Ok(Tally {
         plain: std::num::wrapping_add_u64(tally.plain, 1),
         different: std::num::wrapping_add_u64(tally.different, (tally.used < used) as u64),
         used,
-    }
+    })
 }

@@ -1,26 +1,29 @@
 // What the formulas print, kept in a buffer: each LaTeX text once, with a newline at each end.
-ghost use Rattle.std.specs.Prelude.{◌≡◌, length};
-ghost use Rattle.io.specs.Counts.{IsPrefixLen};
+ghost use Rattle.std.specs.Prelude.{◌≡◌, length, IfOk, OnErr};
+ghost use Rattle.std.specs.Counts.{IsPrefixLen};
 ghost use Rattle.plain_short.specs.Printed.{PrintedRoom, PrintedKept};
 
 use math_conv::Answer;
+use std::io;
 
 // The bytes of the buffer.
-const ROOM: usize = 65_536;
+pub const ROOM: usize = 65_536;
 
-// Writes the formula's LaTeX and keeps it. Answers the bytes in use, which are more than before if the LaTeX is new.
-pub fn print(formula: &[u8], printed: &mut [u8], used: usize) -> usize
+// Writes the formula's LaTeX and keeps it. Answers the bytes in use, which are more than before if the LaTeX is new. What cannot be written is not
+// kept.
+pub fn print(rt: &impl Print, formula: &[u8], printed: &mut [u8], used: usize) -> io::Result<usize>
     requires { PrintedRoom printed.old used }
-    ensures { PrintedRoom printed.new result }
+    ensures ok { IfOk result (PrintedRoom printed.new) }
+    ensures err { OnErr result (printed.new ≡ printed.old) }
 {
     let mut line = [b'\n'; 64];
     let end = convert(formula, &mut line);
     if end < 2 {
-        io::write_all(1, b"refused\n");
-        return used;
+        rt.write_all(b"refused\n")?;
+        return Ok(used);
     }
-    io::write_all(1, &line[1..end]);
-    keep(printed, used, &line[..end])
+    rt.write_all(&line[1..end])?;
+    Ok(keep(printed, used, &line[..end]))
 }
 
 // Puts the formula's LaTeX into the line, behind the first of its newlines. Answers the bytes up to the next newline, or 0 where the call is refused.

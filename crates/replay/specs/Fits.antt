@@ -4,9 +4,9 @@
 use Rattle.std.specs.Prelude.{◌≡◌, ◌+◌, ◌≤◌}
 use Rattle.std.proofs.Common.{subst}
 use Rattle.spec.specs.Result.{most_symbols}
-use Rattle.replay.specs.declared.cases.Case.{Case}
-use Rattle.replay.specs.declared.cases.NextCase.{NextCase}
-use Rattle.replay.specs.declared.cases.NextCase.TheVariants.{Whole as WholeCase, Broken}
+use Rattle.replay.specs.declared.case_file.Case.{Case}
+use Rattle.replay.specs.declared.case_file.NextCase.{NextCase}
+use Rattle.replay.specs.declared.case_file.NextCase.TheVariants.{Whole as WholeCase, Broken}
 
 pub record CaseFits (c : Case) : Type 0 where
   pub work : c.work ≤ 40960

@@ -4,9 +4,10 @@ ghost use Rattle.spec.specs.Result.{most_symbols};
 ghost use Rattle.replay.specs.Fits.{CaseFits};
 ghost use Rattle.replay.specs.Recorded.{Vouched, Agrees, recorded};
 
-use super::cases::{Case, MOST_OUTPUT, MOST_WORK};
+use super::case_file::{Case, MOST_OUTPUT, MOST_WORK};
 use super::summary::tell;
 use math_conv::Answer;
+use std::io;
 
 // What a call is lent, and the number that it is to answer, 0 for done.
 #[derive(Clone, Copy)]
@@ -29,29 +30,38 @@ pub enum Difference {
 }
 
 // All calls of a case; whether nothing differs.
-pub fn replay(i: usize, case: Case, formula: &[u8], table: &[u8], latex: &[u8], old: &[u8]) -> bool
-    requires case_fits { CaseFits case }
-    requires latex_len_bound { length latex.now ≤ most_symbols }
-    requires in_bounds { 40960 ≤ length old.now }
-{
-    let is_right = replay_recorded(i, case, formula, table, latex, old);
-    if case.number != 0 {
-        return is_right;
-    }
-    is_right
-        & replay_full(i, case, formula, table, latex, old)
-        & replay_short(i, case, formula, table, latex, old)
-        & replay_narrow(i, case, formula, table, latex, old)
-}
-
-fn replay_recorded(
+pub fn replay(
+    rt: &impl Print,
     i: usize,
     case: Case,
     formula: &[u8],
     table: &[u8],
     latex: &[u8],
     old: &[u8],
-) -> bool
+) -> io::Result<bool>
+    requires case_fits { CaseFits case }
+    requires latex_len_bound { length latex.now ≤ most_symbols }
+    requires in_bounds { 40960 ≤ length old.now }
+{
+    let is_right = replay_recorded(rt, i, case, formula, table, latex, old)?;
+    if case.number != 0 {
+        return Ok(is_right);
+    }
+    let is_full_right = replay_full(rt, i, case, formula, table, latex, old)?;
+    let is_short_right = replay_short(rt, i, case, formula, table, latex, old)?;
+    let is_narrow_right = replay_narrow(rt, i, case, formula, table, latex, old)?;
+    Ok(is_right & is_full_right & is_short_right & is_narrow_right)
+}
+
+fn replay_recorded(
+    rt: &impl Print,
+    i: usize,
+    case: Case,
+    formula: &[u8],
+    table: &[u8],
+    latex: &[u8],
+    old: &[u8],
+) -> io::Result<bool>
     requires case_fits { CaseFits case }
     requires in_bounds { 40960 ≤ length old.now }
 {
@@ -68,11 +78,19 @@ fn replay_recorded(
         latex,
         old,
     );
-    tell(i, case.family, b"as recorded", found)
+    tell(rt, i, case.family, "as recorded", found)
 }
 
 // With the output exactly full.
-fn replay_full(i: usize, case: Case, formula: &[u8], table: &[u8], latex: &[u8], old: &[u8]) -> bool
+fn replay_full(
+    rt: &impl Print,
+    i: usize,
+    case: Case,
+    formula: &[u8],
+    table: &[u8],
+    latex: &[u8],
+    old: &[u8],
+) -> io::Result<bool>
     requires case_fits { CaseFits case }
     requires latex_len_bound { length latex.now ≤ most_symbols }
     requires in_bounds { 40960 ≤ length old.now }
@@ -90,24 +108,25 @@ fn replay_full(i: usize, case: Case, formula: &[u8], table: &[u8], latex: &[u8],
         latex,
         old,
     );
-    tell(i, case.family, b"with a full output", found)
+    tell(rt, i, case.family, "with a full output", found)
 }
 
 // With the output one byte short.
 fn replay_short(
+    rt: &impl Print,
     i: usize,
     case: Case,
     formula: &[u8],
     table: &[u8],
     latex: &[u8],
     old: &[u8],
-) -> bool
+) -> io::Result<bool>
     requires case_fits { CaseFits case }
     requires latex_len_bound { length latex.now ≤ most_symbols }
     requires in_bounds { 40960 ≤ length old.now }
 {
     if latex.len() == 0 {
-        return true;
+        return Ok(true);
     }
     let found = call(
         Setting {
@@ -122,18 +141,19 @@ fn replay_short(
         latex,
         old,
     );
-    tell(i, case.family, b"with a short output", found)
+    tell(rt, i, case.family, "with a short output", found)
 }
 
 // With the work buffer one byte short.
 fn replay_narrow(
+    rt: &impl Print,
     i: usize,
     case: Case,
     formula: &[u8],
     table: &[u8],
     latex: &[u8],
     old: &[u8],
-) -> bool
+) -> io::Result<bool>
     requires case_fits { CaseFits case }
     requires in_bounds { 40960 ≤ length old.now }
 {
@@ -150,7 +170,7 @@ fn replay_narrow(
         latex,
         old,
     );
-    tell(i, case.family, b"with a narrow work buffer", found)
+    tell(rt, i, case.family, "with a narrow work buffer", found)
 }
 
 fn call(setting: Setting, formula: &[u8], table: &[u8], latex: &[u8], old: &[u8]) -> Difference
@@ -192,8 +212,8 @@ fn call_on(
 {
     let w = work.len();
     let o = output.len();
-    bytes::copy(&old[..w], work);
-    bytes::copy(&old[..o], output);
+    work.copy_from_slice(&old[..w]);
+    output.copy_from_slice(&old[..o]);
     let answer = math_conv::typst_to_latex(formula, table, display, field, work, output);
     if !is_left_right(number, work, &old[..w]) {
         return Difference::Work;
@@ -225,10 +245,10 @@ fn compare_done(n: usize, number: u64, latex: &[u8], output: &[u8], old: &[u8]) 
     if output.len() < n {
         return Difference::Count;
     }
-    if !check::same(&output[..n], latex) {
+    if &output[..n] != latex {
         return Difference::Bytes;
     }
-    if !check::same(&output[n..], &old[n..]) {
+    if &output[n..] != &old[n..] {
         return Difference::Output;
     }
     Difference::Nothing
@@ -240,7 +260,7 @@ fn compare_refused(found: u64, number: u64, output: &[u8], old: &[u8]) -> Differ
     if found != number {
         return Difference::Number;
     }
-    if !check::same(output, old) {
+    if output != old {
         return Difference::Output;
     }
     Difference::Nothing
@@ -251,7 +271,7 @@ fn is_left_right(number: u64, work: &[u8], old: &[u8]) -> bool
     ensures { result ≡ true → work.now ≡ (if nat_eq number 4 then old.now else replicate (length work.now) 0) }
 {
     if number == 4 {
-        return check::same(work, old);
+        return work == old;
     }
     is_zero(work)
 }

@@ -5,75 +5,82 @@
 #![tactic(auto)]
 
 mod calls;
-mod cases;
+mod case_file;
 mod summary;
 
-ghost use Rattle.std.specs.Prelude.{◌≤◌, length};
+ghost use Rattle.std.specs.Prelude.{◌≤◌, length, IfOk};
 ghost use Rattle.replay.specs.Fits.{CaseFits};
 
-use cases::{Case, Head, NextCase};
-use summary::{TALLY, say, say_number};
+use case_file::{Case, Head, NextCase};
+use std::io::Read;
+use std::{fs, io};
+use summary::TALLY;
 
 // Where the old contents of a case's buffers may begin, and how many bytes they are taken from.
 const STARTS: usize = 256;
 
 const OLD: usize = 41_216;
 
-fn main() {
-    let fd = os::open_read(b"cases.bin");
-    if fd < 0 {
-        os::fail(b"cases.bin");
-        return;
+// The bytes of a case that there is room for.
+const BODY: usize = 65_536;
+
+fn main(rt: HostRuntime) -> io::Result<()> {
+    match fs::open(&rt, "cases.bin") {
+        Ok(mut file) => replay_file(&rt, &mut file),
+        Err(why) => eprintln!(rt; "cases.bin: {why}"),
     }
-    replay_file(fd);
-    libc::close(fd);
 }
 
-fn replay_file(fd: i32) {
-    let Head::Cases(count) = cases::read_head(fd) else {
-        say(b"cases.bin is no file of cases\n");
-        return;
+fn replay_file<R: Read>(rt: &impl Print, file: &mut R) -> io::Result<()> {
+    let Head::Cases(count) = case_file::read_head(file) else {
+        return println!(rt; "cases.bin is no file of cases");
     };
     let mut tally = [0; TALLY];
-    let replayed = replay_cases(fd, count, &mut tally);
+    let replayed = replay_cases(rt, file, count, &mut tally)?;
     if replayed < count {
-        say(b"cases.bin breaks off in case ");
-        say_number(replayed as u64);
-        say(b"\n");
-        return;
+        return println!(rt; "cases.bin breaks off in case {replayed}");
     }
-    if !cases::is_at_end(fd) {
-        say(b"cases.bin goes on behind its last case\n");
-        return;
+    if !case_file::is_at_end(file) {
+        return println!(rt; "cases.bin goes on behind its last case");
     }
-    summary::write_summary(count as u64, &tally);
+    summary::write_summary(rt, count as u64, &tally)
 }
 
 // How many cases could be read; all of them have been replayed.
-fn replay_cases(fd: i32, count: usize, tally: &mut [u64; TALLY]) -> usize
-    ensures { result ≤ count }
+fn replay_cases<R: Read>(
+    rt: &impl Print,
+    file: &mut R,
+    count: usize,
+    tally: &mut [u64; TALLY],
+) -> io::Result<usize>
+    ensures { IfOk result (λ n. n ≤ count) }
 {
     let mut i = 0;
-    while i < count && replay_next(fd, i, tally) {
+    while i < count && replay_next(rt, file, i, tally)? {
         i += 1;
     }
-    i
+    Ok(i)
 }
 
 // Whether there was a case to replay.
-fn replay_next(fd: i32, i: usize, tally: &mut [u64; TALLY]) -> bool {
-    let mut body = io::large_buffer();
-    let NextCase::Whole(case) = cases::read_case(fd, &mut body) else {
-        return false;
+fn replay_next<R: Read>(
+    rt: &impl Print,
+    file: &mut R,
+    i: usize,
+    tally: &mut [u64; TALLY],
+) -> io::Result<bool> {
+    let mut body = [0; BODY];
+    let NextCase::Whole(case) = case_file::read_case(file, &mut body) else {
+        return Ok(false);
     };
     summary::note(tally, case);
-    if !replay_case(i, case, &body) {
+    if !replay_case(rt, i, case, &body)? {
         summary::count_one(tally, summary::WRONG);
     }
-    true
+    Ok(true)
 }
 
-fn replay_case(i: usize, case: Case, body: &[u8]) -> bool
+fn replay_case(rt: &impl Print, i: usize, case: Case, body: &[u8]) -> io::Result<bool>
     requires case_fits { CaseFits case }
     requires in_bounds { 65536 ≤ length body.now }
 {
@@ -84,6 +91,7 @@ fn replay_case(i: usize, case: Case, body: &[u8]) -> bool
     let latex = table + case.table;
     let end = latex + case.latex;
     calls::replay(
+        rt,
         i,
         case,
         &body[..table],

@@ -1,7 +1,7 @@
 // What the program writes: the cases that went wrong, and the summary.
 use super::calls::Difference;
-use super::cases::Case;
-use libc::STDOUT_FILENO;
+use super::case_file::Case;
+use std::io;
 
 // A tally has the cases by their number, up to 15, then those with display off, those under another tall field than 31, those with definitions and
 // those that went wrong.
@@ -37,74 +37,62 @@ pub fn note(tally: &mut [u64; TALLY], case: Case) {
     }
 }
 
-pub fn write_summary(cases: u64, tally: &[u64; TALLY]) {
-    write_kinds(cases, tally);
+pub fn write_summary(rt: &impl Print, cases: u64, tally: &[u64; TALLY]) -> io::Result<()> {
+    write_kinds(rt, cases, tally)?;
     for number in 1..11 {
-        say_refused(tally[number], number as u64);
+        say_refused(rt, tally[number], number as u64)?;
     }
-    say_refused(tally[15], 15);
+    say_refused(rt, tally[15], 15)
 }
 
-fn write_kinds(cases: u64, tally: &[u64; TALLY]) {
-    say_count(cases, b"cases");
-    say_count(tally[WRONG], b"wrong");
-    say_count(tally[OFF], b"with display off");
-    say_count(tally[OTHER_FIELD], b"under another tall field than 31");
-    say_count(tally[DEFINED], b"with definitions");
+fn write_kinds(rt: &impl Print, cases: u64, tally: &[u64; TALLY]) -> io::Result<()> {
+    say_count(rt, cases, "cases")?;
+    say_count(rt, tally[WRONG], "wrong")?;
+    say_count(rt, tally[OFF], "with display off")?;
+    say_count(rt, tally[OTHER_FIELD], "under another tall field than 31")?;
+    say_count(rt, tally[DEFINED], "with definitions")?;
     say_count(
+        rt,
         tally[0],
-        b"done, called again with a full output, a short output and a narrow work buffer",
-    );
+        "done, called again with a full output, a short output and a narrow work buffer",
+    )
 }
 
-fn say_refused(n: u64, number: u64) {
-    say_number(n);
-    say(b" refused ");
-    say_number(number);
-    say(b"\n");
+fn say_refused(rt: &impl Print, n: u64, number: u64) -> io::Result<()> {
+    println!(rt; "{n} refused {number}")
 }
 
 // Whether nothing differs; what does is written.
-pub fn tell(i: usize, family: u8, how: &[u8], found: Difference) -> bool {
+pub fn tell(
+    rt: &impl Print,
+    i: usize,
+    family: u8,
+    how: &str,
+    found: Difference,
+) -> io::Result<bool> {
     match found {
-        Difference::Nothing => true,
-        Difference::Number => tell_wrong(i, family, how, b"another answer"),
-        Difference::Count => tell_wrong(i, family, how, b"another byte count"),
-        Difference::Bytes => tell_wrong(i, family, how, b"other bytes"),
-        Difference::Output => tell_wrong(i, family, how, b"the rest of the output was touched"),
+        Difference::Nothing => Ok(true),
+        Difference::Number => tell_wrong(rt, i, family, how, "another answer"),
+        Difference::Count => tell_wrong(rt, i, family, how, "another byte count"),
+        Difference::Bytes => tell_wrong(rt, i, family, how, "other bytes"),
+        Difference::Output => {
+            tell_wrong(rt, i, family, how, "the rest of the output was touched")
+        }
         Difference::Work => tell_wrong(
+            rt,
             i,
             family,
             how,
-            b"the work buffer is not left as it should be",
+            "the work buffer is not left as it should be",
         ),
     }
 }
 
-fn tell_wrong(i: usize, family: u8, how: &[u8], what: &[u8]) -> bool {
-    say(b"case ");
-    say_number(i as u64);
-    say(b" of family ");
-    say_number(family as u64);
-    say(b", ");
-    say(how);
-    say(b": ");
-    say(what);
-    say(b"\n");
-    false
+fn tell_wrong(rt: &impl Print, i: usize, family: u8, how: &str, what: &str) -> io::Result<bool> {
+    println!(rt; "case {i} of family {family}, {how}: {what}")?;
+    Ok(false)
 }
 
-fn say_count(n: u64, what: &[u8]) {
-    say_number(n);
-    say(b" ");
-    say(what);
-    say(b"\n");
-}
-
-pub fn say_number(n: u64) {
-    io::print_decimal(STDOUT_FILENO, n);
-}
-
-pub fn say(text: &[u8]) {
-    io::write_all(STDOUT_FILENO, text);
+fn say_count(rt: &impl Print, n: u64, what: &str) -> io::Result<()> {
+    println!(rt; "{n} {what}")
 }

@@ -9,8 +9,12 @@ ghost use Rattle.spec.specs.Pipeline.{least_work};
 ghost use Rattle.text.specs.Stage.{Ready};
 
 use call_quotes::Quotes;
+use std::io;
 use text::Progress;
 use text_search::Found;
+
+// The bytes of all lines that there is room for.
+const MOST: usize = 65_536;
 
 fn convert(work: &mut [u8], section: usize, text: Progress) -> Progress
     requires { Ready work.old text }
@@ -71,67 +75,56 @@ fn search(section: usize, s: &[u8]) -> Found
     }
 }
 
-fn show(work: &[u8], progress: Progress)
+fn show(rt: &impl Print, work: &[u8], progress: Progress) -> io::Result<()>
     requires { Ready work.now progress }
 {
     match progress {
         Progress::Text(at, n) => {
             let end = at + n;
-            io::write_all(1, &work[at..end]);
+            rt.write_all(&work[at..end])
         }
         Progress::Refused(why) => {
-            io::write_all(1, b"refused ");
-            io::print_decimal(1, text::number(why));
+            let number = text::number(why);
+            print!(rt; "refused {number}")
         }
     }
 }
 
-fn show_place(found: Found) {
+fn show_place(rt: &impl Print, found: Found) -> io::Result<()> {
     match found {
-        Found::At(k) => {
-            io::print_decimal(1, k as u64);
-        }
-        Found::Nothing => {
-            io::write_all(1, b"nothing");
-        }
+        Found::At(k) => print!(rt; "{k}"),
+        Found::Nothing => print!(rt; "nothing"),
     }
 }
 
-fn show_atoms(answer: plain_check::PlainAnswer) {
+fn show_atoms(rt: &impl Print, answer: plain_check::PlainAnswer) -> io::Result<()> {
     match answer {
-        plain_check::PlainAnswer::Yes(n) => {
-            io::print_decimal(1, n as u64);
-        }
-        plain_check::PlainAnswer::No => {
-            io::write_all(1, b"no");
-        }
+        plain_check::PlainAnswer::Yes(n) => print!(rt; "{n}"),
+        plain_check::PlainAnswer::No => print!(rt; "no"),
     }
 }
 
-fn run(work: &mut [u8], section: usize, formula: &[u8])
+fn run(rt: &impl Print, work: &mut [u8], section: usize, formula: &[u8]) -> io::Result<()>
     requires least_work_in_bounds { least_work ≤ length work.old }
     requires formula_len_bound { length formula.now ≤ most_symbols }
 {
     let n = text::put_all(work, 0, text::CAP, 0, formula);
     let progress = convert(work, section, Progress::Text(0, n));
-    show(work, progress);
+    show(rt, work, progress)
 }
 
-fn answer(section: usize, s: &[u8]) {
+fn answer(rt: &impl Print, section: usize, s: &[u8]) -> io::Result<()> {
     if 26 < section {
-        show_atoms(plain_check::plain_check(s));
-        return;
+        return show_atoms(rt, plain_check::plain_check(s));
     }
     if text::CAP < s.len() {
-        io::write_all(1, b"a long line");
-        return;
+        return print!(rt; "a long line");
     }
     if 20 <= section {
-        show_place(search(section, s));
-        return;
+        return show_place(rt, search(section, s));
     }
     let mut work = [0u8; 32768];
-    run(&mut work, section, s);
+    run(rt, &mut work, section, s)
 }
 
 // The length of the first line, without its newline.
@@ -144,27 +137,28 @@ fn line(s: &[u8]) -> usize
     }
 }
 
-fn answer_lines(s: &[u8]) {
+fn answer_lines(rt: &impl Print, s: &[u8]) -> io::Result<()> {
     let mut section = 0;
     let mut start = 0;
     while start < s.len() {
         let end = start + line(&s[start..]);
         if s[start] == b'#' {
             section += 1;
-            io::write_all(1, &s[start..end]);
+            rt.write_all(&s[start..end])?;
         } else {
-            answer(section, &s[start..end]);
+            answer(rt, section, &s[start..end])?;
         }
-        io::write_all(1, b"\n");
+        rt.write_all(b"\n")?;
         if end == s.len() {
-            return;
+            return Ok(());
         }
         start = end + 1;
     }
+    Ok(())
 }
 
-fn main() {
-    let mut buffer = io::large_buffer();
-    let n = io::read_full(0, &mut buffer);
-    answer_lines(&buffer[..n]);
+fn main(rt: HostRuntime) -> io::Result<()> {
+    let mut buffer = [0; MOST];
+    let n = filling::read_full(&mut rt.reader(), &mut buffer)?;
+    answer_lines(&rt, &buffer[..n])
 }

@@ -6,6 +6,8 @@
 ghost use Rattle.std.specs.Prelude.{◌≤◌};
 
 use case_input::Next;
+use std::io;
+use std::io::Read;
 
 // More than there are.
 const CASES: usize = 1_000;
@@ -15,54 +17,65 @@ const FORMULA: usize = 4_097;
 
 const TABLE: usize = 32_769;
 
-fn main() {
+fn main(rt: HostRuntime) -> io::Result<()> {
+    let mut cases = rt.reader();
     for _ in 0..CASES {
-        if !answer_next() {
-            return;
+        if !answer_next(&rt, &mut cases)? {
+            return Ok(());
         }
     }
+    Ok(())
 }
 
 // Whether there was a case.
-fn answer_next() -> bool {
-    let Next::Case(n, m) = case_input::next_case(FORMULA, TABLE) else {
-        return false;
+fn answer_next<R: Read>(rt: &impl Print, cases: &mut R) -> io::Result<bool> {
+    let Next::Case(n, m) = case_input::next_case(cases, FORMULA, TABLE)? else {
+        return Ok(false);
     };
-    answer(n, m);
-    true
+    answer(rt, cases, n, m)?;
+    Ok(true)
 }
 
 // What stands behind the bytes that are read must not count, so it is letters, with which a word would go on.
-fn answer(n: usize, m: usize)
+fn answer<R: Read>(rt: &impl Print, cases: &mut R, n: usize, m: usize) -> io::Result<()>
     requires { (n ≤ 4097) × (m ≤ 32769) }
 {
     let mut formula = [b'a'; FORMULA];
     let mut table = [b'a'; TABLE];
-    read_and_show(&mut formula[..n], &mut table[..m]);
+    read_and_show(rt, cases, &mut formula[..n], &mut table[..m])
 }
 
-fn read_and_show<'a>(formula: &'a mut [u8], table: &'a mut [u8]) {
-    io::read_full(0, formula);
-    io::read_full(0, table);
-    show_words(formula, table);
+fn read_and_show<'a, R: Read>(
+    rt: &impl Print,
+    cases: &mut R,
+    formula: &'a mut [u8],
+    table: &'a mut [u8],
+) -> io::Result<()> {
+    filling::read_full(cases, formula)?;
+    filling::read_full(cases, table)?;
+    show_words(rt, formula, table)
 }
 
-fn show_words<'a>(formula: &'a [u8], table: &'a [u8]) {
+fn show_words<'a>(rt: &impl Print, formula: &'a [u8], table: &'a [u8]) -> io::Result<()> {
     for place in 0..formula.len() {
-        show_word(formula, table, place);
+        show_word(rt, formula, table, place)?;
     }
-    show_word(formula, table, formula.len());
+    show_word(rt, formula, table, formula.len())
 }
 
-fn show_word<'a>(formula: &'a [u8], table: &'a [u8], place: usize) {
-    io::print_decimal(1, place as u64);
+fn show_word<'a>(
+    rt: &impl Print,
+    formula: &'a [u8],
+    table: &'a [u8],
+    place: usize,
+) -> io::Result<()> {
+    print!(rt; "{place}")?;
     let number = word_at::word_number(formula, table, place);
     if number == 0 {
-        io::write_all(1, b" ok ");
-        io::write_all(1, word_at::word_at(formula, table, place));
+        rt.write_all(b" ok ")?;
+        rt.write_all(word_at::word_at(formula, table, place))?;
     } else {
-        io::write_all(1, b" refused ");
-        io::print_decimal(1, number);
+        print!(rt; " refused {number}")?;
     }
-    io::write_all(1, b"\n");
+    rt.write_all(b"\n")
 }
