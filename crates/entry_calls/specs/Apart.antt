@@ -2,7 +2,8 @@
 use Rattle.std.specs.Prelude.{◌≡◌, true, List, ◌≢◌, ℕ, take}
 use Rattle.spec.specs.Grammar.{Plain}
 use Rattle.spec.specs.Pipeline.{Call}
-use Rattle.plain_printing.specs.Calls.{NoRecords, calls-apart}
+use Rattle.plain_printing.specs.Calls.{NoRecords}
+use Rattle.plain_printing.proofs.Calls.{calls-apart}
 use Rattle.entry_ends.specs.Answer.{meaning}
 use Rattle.entry_ends.specs.declared.Answer.{Answer}
 use Rattle.entry_ends.specs.declared.Answer.TheVariants.{Done}

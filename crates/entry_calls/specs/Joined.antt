@@ -4,7 +4,8 @@ use Rattle.std.specs.Prelude.{◌≡◌, true, List, ℕ, ◌≤◌, length, tak
 use Rattle.spec.specs.Grammar.{Plain}
 use Rattle.spec.specs.Pipeline.{least_work, Call}
 use Rattle.plain_printing.specs.Calls.{NoRecords, latex_of}
-use Rattle.plain_printing.specs.Joins.{joined, calls-join, first-accepted, second-accepted}
+use Rattle.plain_printing.specs.Joins.{joined}
+use Rattle.plain_printing.proofs.Joins.{calls-join, first-accepted, second-accepted}
 use Rattle.entry_ends.specs.Answer.{meaning, means-done}
 use Rattle.entry_ends.specs.declared.Answer.{Answer}
 use Rattle.entry_ends.specs.declared.Answer.TheVariants.{Done}

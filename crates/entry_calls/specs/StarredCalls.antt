@@ -12,7 +12,8 @@ use Rattle.spec.specs.Rows.{Row}
 use Rattle.spec.specs.Finish.{all_tall}
 use Rattle.spec.specs.Pipeline.{most_formula, least_work, definitions_or, checked, admitted, typst_to_latex, fitting, converted, answer_of, output_after, work_after, Call}
 use Rattle.spec.specs.Starred.{starred, starred-hold}
-use Rattle.plain_printing.specs.Calls.{NoRecords, none_or}
+use Rattle.plain_printing.specs.Calls.{NoRecords}
+use Rattle.plain_printing.proofs.Calls.{none_or}
 use Rattle.entry_ends.specs.Answer.{meaning, means-done}
 use Rattle.entry_ends.specs.declared.Answer.{Answer}
 use Rattle.entry_ends.specs.declared.Answer.TheVariants.{Done}

@@ -11,14 +11,7 @@ pub mod Agree
 pub mod Stored
 pub mod Numbering
 pub mod ByNumber
-pub mod PutBack
 pub mod Placeholders
 pub mod Finding
-pub mod OneName
 pub mod Numbers
-pub mod Stuck
-pub mod Romans
-pub mod Literal
 pub mod Commutes
-pub mod Whole
-pub mod Before

@@ -8,17 +8,12 @@ pub mod Stages
 pub mod Outside
 pub mod SameRecords
 pub mod StoredTables
-pub mod TablesExample
 pub mod RustCalls
 pub mod PassedOver
 pub mod CallStages
 pub mod RustFractions
 pub mod LeftSlashes
-pub mod LeftExample
-pub mod FractionStages
 pub mod RustSizing
-pub mod SizingStages
 pub mod OperandLengths
 pub mod Slashes
 pub mod RoundCourse
-pub mod Rewritings

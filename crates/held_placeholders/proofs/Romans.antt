@@ -20,9 +20,9 @@ use Rattle.held_laws.specs.TakeOut.{Turns, ended, unclosed, passing, holding}
 use Rattle.held_placeholders.specs.Numbered.{placeholder, numbered, numbered_romans, romans-none}
 use Rattle.held_placeholders.specs.Placeholders.{both_names, PlaceholderText, placed, first_block, or_next, first_block_of, held_one}
 use Rattle.held_placeholders.specs.Finding.{Lacks, AbsentBefore, absent-before-more, passed-placeholder}
-use Rattle.held_placeholders.specs.OneName.{block-missing, block-unclosed, block-found, Reaches, reaches-now, reaches-one}
+use Rattle.held_placeholders.proofs.OneName.{block-missing, block-unclosed, block-found, Reaches, reaches-now, reaches-one}
 use Rattle.held_placeholders.specs.Numbers.{numbered_from, number_append, number-starts, number_behind, number-unclosed, number-closed, numbered-plain, romans-plain, romans-text, numbered-texts}
-use Rattle.held_placeholders.specs.Stuck.{stuck, stuck-none, stuck-over}
+use Rattle.held_placeholders.proofs.Stuck.{stuck, stuck-none, stuck-over}
 
 abbrev name : List ℕ
 name = bytes "\\mathrm{"

@@ -14,7 +14,7 @@ use Rattle.plain_printing.specs.Tree.{Tree, marked_style, write}
 use Rattle.plain_printing.specs.Classes.{any_of, any-all}
 use Rattle.plain_printing.specs.Local.{chain}
 use Rattle.plain_printing.specs.Rule.{word_rule, rule}
-use Rattle.plain_printing.specs.LocalTree.{marked-rule}
+use Rattle.plain_printing.proofs.LocalTree.{marked-rule}
 use Rattle.plain_printing.specs.Sweeps.{Copies, sweep-chain}
 
 -- ---- escape_set_braces

@@ -10,7 +10,8 @@ use Rattle.spec.specs.Finish.{escape_set_braces, convert_lr, size_delimiters_to_
 use Rattle.spec.specs.Pipeline.{unmark_solidus, on_display, convert_syntax, typst_to_latex, definitions_or, fitting, converted}
 use Rattle.spec.specs.Laws.Admission.{admitted-alike}
 use Rattle.stage_laws.specs.RustFractions.{rust_fractions, before_syntax, before_fractions, syntax_with_rust_fractions, latex_with_rust_fractions, converted_with_rust_fractions}
-use Rattle.stage_laws.specs.LeftSlashes.{leaves_in_rounds, fractions-as-rust}
+use Rattle.stage_laws.specs.LeftSlashes.{leaves_in_rounds}
+use Rattle.stage_laws.proofs.LeftSlashes.{fractions-as-rust}
 
 -- the text that the rounds are given, if the stages before give one
 abbrev pub left_in : Result (List ℕ) → Bool

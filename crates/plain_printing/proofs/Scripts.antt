@@ -16,9 +16,9 @@ use Rattle.spec.specs.Laws.Booleans.{and_left, and_right}
 use Rattle.plain_printing.specs.Tree.{Tree, TreeScript, Join, beside, plus, minus, atom, fraction, group, row, bare, symbol, inner, atom_writing, join_text, operand, lone, script_brackets, scriptless, scriptless_script, PlainTree, PlainScript, marked_style, braced_style, write, write_script}
 use Rattle.plain_printing.specs.Classes.{apart, all-weaken}
 use Rattle.plain_printing.specs.Nest.{Nest}
-use Rattle.plain_printing.specs.Written.{nest}
-use Rattle.plain_printing.specs.Operand.{close-through}
-use Rattle.plain_printing.specs.Unlatex.{bare_symbol, atom-bare}
+use Rattle.plain_printing.proofs.Written.{nest}
+use Rattle.plain_printing.proofs.Operand.{close-through}
+use Rattle.plain_printing.proofs.Unlatex.{bare_symbol, atom-bare}
 use Rattle.plain_printing.specs.Sweeps.{sweep-skip}
 
 -- what stands before a place doesn't count

@@ -17,10 +17,10 @@ use Rattle.plain_printing.specs.Tree.{Join, beside, plus, minus, join_text, slas
 use Rattle.plain_printing.specs.Classes.{apart}
 use Rattle.plain_printing.specs.Nest.{Nest}
 use Rattle.plain_printing.specs.Rule.{ends_factor, last}
-use Rattle.plain_printing.specs.Alphabet.{Ends}
-use Rattle.plain_printing.specs.Written.{join-nest}
-use Rattle.plain_printing.specs.Operand.{Edge, start, after-space, after-paren, after-brace, Stop, at-space, script-context-back, append-minus, until-onto, onto-minus, drop-onto, ReadAsOperand}
-use Rattle.plain_printing.specs.Stacked.{Copied}
+use Rattle.plain_printing.proofs.Alphabet.{Ends}
+use Rattle.plain_printing.proofs.Written.{join-nest}
+use Rattle.plain_printing.proofs.Operand.{Edge, start, after-space, after-paren, after-brace, Stop, at-space, script-context-back, append-minus, until-onto, onto-minus, drop-onto, ReadAsOperand}
+use Rattle.plain_printing.proofs.Stacked.{Copied}
 
 onto-length : (s p : List ℕ) → length (reverse_aux s p) ≡ length s + length p
 onto-length s p = omega (arith, ap length (reverse_aux-eq s p), length-append (reverse s) p, length-reverse s)

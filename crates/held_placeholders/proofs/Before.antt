@@ -31,7 +31,7 @@ use Rattle.stage_laws.specs.Calls.{unmarked}
 use Rattle.stage_laws.specs.Stages.{Passes, pass, stop, before_definitions, before_words, before-definitions-passes, before-words-passes}
 use Rattle.stage_laws.specs.Outside.{each_bare, bare-each, outside-passes}
 use Rattle.held_placeholders.specs.Numbered.{rust_put_back}
-use Rattle.held_placeholders.specs.PutBack.{rust-own}
+use Rattle.held_placeholders.proofs.PutBack.{rust-own}
 
 -- ---- the definitions
 -- the length that number 5 counted

@@ -8,7 +8,7 @@ use Rattle.spec.specs.Grammar
 use Rattle.spec.specs.Grammar.{Atom, variable, greek, number, Sum, product, plus, minus, Product, factor, beside, Factor, scripted, fraction, group, Operand, atom, enclosed, Script, bare, symbol, inner}
 use Rattle.spec.specs.Laws.Booleans.{and_left, and_right}
 use Rattle.plain_printing.specs.Tree.{Tree, Join, Style, atom_writing, join_text, operand, parens, lone, slashless, height, height_script, typst_style, final_style, write, write_script, stacked, text, tree_latex}
-use Rattle.plain_printing.specs.TreeOf.{tree_of, product_tree, onto, factor_tree, operand_tree, script_tree, slashless-tree, lone-tree}
+use Rattle.plain_printing.proofs.TreeOf.{tree_of, product_tree, onto, factor_tree, operand_tree, script_tree, slashless-tree, lone-tree}
 
 -- the factors of a product before a row
 write-onto : (s : Style) (n : ℕ) (p : Product) (j : Join) (t : Tree) → write s n (onto p j t) ≡ write s n (product_tree p) ++ join_text j ++ write s n t

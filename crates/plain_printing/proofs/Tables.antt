@@ -17,10 +17,10 @@ use Rattle.spec.specs.Laws.Booleans.{and_left, and_right}
 use Rattle.spec.specs.Laws.Held.{unheld, in-full-none}
 use Rattle.spec.specs.Laws.Absent.{replace_absent}
 use Rattle.plain_printing.specs.Tree.{Tree, height, typed_style, marked_style, write, text, tree_latex}
-use Rattle.plain_printing.specs.Absent.{stopped, absent-typed}
-use Rattle.plain_printing.specs.WordsCopy.{two_letters, word_row, word-row-copies, capital-row-copies}
-use Rattle.plain_printing.specs.Greek.{all_rows_at, pass_rule, passes-hold, greek-pass}
-use Rattle.plain_printing.specs.Growth.{latex-longest}
+use Rattle.plain_printing.proofs.Absent.{stopped, absent-typed}
+use Rattle.plain_printing.proofs.WordsCopy.{two_letters, word_row, word-row-copies, capital-row-copies}
+use Rattle.plain_printing.proofs.Greek.{all_rows_at, pass_rule, passes-hold, greek-pass}
+use Rattle.plain_printing.proofs.Growth.{latex-longest}
 use Rattle.plain_printing.specs.Blocks.{both-nowhere}
 use Rattle.plain_printing.specs.Yields.{Yields, passed-yields, then-yields, stage-yields, held-yields}
 

@@ -3,7 +3,8 @@ use Rattle.std.specs.Prelude.{refl, List, [], ◌∷◌, ℕ}
 use Rattle.std.proofs.Common.{arith}
 use Rattle.spec.specs.Symbols.{bytes}
 use Rattle.spec.specs.Table.{Definition, records_in, nothing, put}
-use Rattle.stage_laws.specs.SameRecords.{SameRecords, CallsAlike, wide-calls-same}
+use Rattle.stage_laws.specs.SameRecords.{SameRecords, CallsAlike}
+use Rattle.stage_laws.proofs.SameRecords.{wide-calls-same}
 
 abbrev pub narrow_gain : List ℕ
 narrow_gain = 16 ∷ 10 ∷ bytes "gain\\mathrm{G}"

@@ -23,16 +23,16 @@ use Rattle.spec.specs.Laws.Result.{first_passes, stage-short}
 use Rattle.spec.specs.Laws.Absent.{replace_absent, cases-absent, attach-absent, quotes-absent, thin-spaces-absent}
 use Rattle.spec.specs.Laws.Held.{in-full-none}
 use Rattle.plain_printing.specs.Tree.{Tree, PlainTree, height, marked_style, final_style, write, text, tree_latex}
-use Rattle.plain_printing.specs.Settle.{settle-ends, settle-does}
-use Rattle.plain_printing.specs.SizingTree.{size-plain}
-use Rattle.plain_printing.specs.Alphabet.{ends-plain}
-use Rattle.plain_printing.specs.Absent.{stopped, absent-typed, absent-marked, absent-final}
+use Rattle.plain_printing.proofs.Settle.{settle-ends, settle-does}
+use Rattle.plain_printing.proofs.SizingTree.{size-plain}
+use Rattle.plain_printing.proofs.Alphabet.{ends-plain}
+use Rattle.plain_printing.proofs.Absent.{stopped, absent-typed, absent-marked, absent-final}
 use Rattle.plain_printing.specs.CallsCopy.{calls-copy, binom-copies, sqrt-copies, wrap-text-copies, lr-sweep-copies, lr-is-stage, alignment-copies}
-use Rattle.plain_printing.specs.Braces.{set-braces-copy, multichar-scripts-copy}
-use Rattle.plain_printing.specs.Scripts.{low-scripts, high-scripts}
+use Rattle.plain_printing.proofs.Braces.{set-braces-copy, multichar-scripts-copy}
+use Rattle.plain_printing.proofs.Scripts.{low-scripts, high-scripts}
 use Rattle.plain_printing.specs.Blocks.{texts-nowhere}
 use Rattle.plain_printing.specs.Yields.{Yields, passed-yields, then-yields, then-passes, stage-yields}
-use Rattle.plain_printing.specs.Tables.{TreeFits, early-short, functions-yield, operators-yield, words-yield, capitals-yield}
+use Rattle.plain_printing.proofs.Tables.{TreeFits, early-short, functions-yield, operators-yield, words-yield, capitals-yield}
 
 module _ (field : ℕ) (t : Tree) (plain : PlainTree t) where
   -- whether the field sizes parentheses with a fraction in them

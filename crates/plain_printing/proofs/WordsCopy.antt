@@ -14,9 +14,9 @@ use Rattle.spec.specs.Laws.Absent.{replacing-waits}
 use Rattle.plain_printing.specs.Tree.{Tree, marked_style, write}
 use Rattle.plain_printing.specs.Local.{chain}
 use Rattle.plain_printing.specs.Rule.{rule}
-use Rattle.plain_printing.specs.LocalTree.{marked-rule}
+use Rattle.plain_printing.proofs.LocalTree.{marked-rule}
 use Rattle.plain_printing.specs.Sweeps.{Copies, sweep-chain}
-use Rattle.plain_printing.specs.Absent.{stopped, absent-marked}
+use Rattle.plain_printing.proofs.Absent.{stopped, absent-marked}
 
 double : (q : Bool) → not (not q && true) ≡ true → q ≡ true
 double true e = refl

@@ -11,8 +11,8 @@ use Rattle.spec.specs.Laws.Booleans.{or_split}
 use Rattle.plain_printing.specs.Tree.{Tree, typst_style, marked_style, final_style, write, text}
 use Rattle.plain_printing.specs.Local.{every_pair, chain-pairs, pairs-absent}
 use Rattle.plain_printing.specs.Rule.{sign_rule, word_rule, rule}
-use Rattle.plain_printing.specs.LocalTree.{typed-rule, marked-rule}
-use Rattle.plain_printing.specs.Alphabet.{plain_symbol, absent-foreign}
+use Rattle.plain_printing.proofs.LocalTree.{typed-rule, marked-rule}
+use Rattle.plain_printing.proofs.Alphabet.{plain_symbol, absent-foreign}
 
 -- ---- the rule, two symbols at a time
 abbrev pub pair_rule : ℕ → ℕ → Bool

@@ -17,12 +17,12 @@ use Rattle.held_laws.specs.WellMade.{texts_of, symbols-of}
 use Rattle.held_placeholders.specs.Numbered.{numbered, numbered_romans}
 use Rattle.held_placeholders.specs.Placeholders.{text_names, both_names, PlaceholderText, placed, or_next, turned, hold_out}
 use Rattle.held_placeholders.specs.Finding.{Lacks, AbsentBefore}
-use Rattle.held_placeholders.specs.OneName.{reaches_then, reaches_end, held-turns}
-use Rattle.held_placeholders.specs.OneName as one
+use Rattle.held_placeholders.proofs.OneName.{reaches_then, reaches_end, held-turns}
+use Rattle.held_placeholders.proofs.OneName as one
 use Rattle.held_placeholders.specs.Numbers.{numbered_from, numbered-texts}
-use Rattle.held_placeholders.specs.Stuck.{none_stuck}
-use Rattle.held_placeholders.specs.Romans.{roman-turns}
-use Rattle.held_placeholders.specs.Romans as roman
+use Rattle.held_placeholders.proofs.Stuck.{none_stuck}
+use Rattle.held_placeholders.proofs.Romans.{roman-turns}
+use Rattle.held_placeholders.proofs.Romans as roman
 
 lacks : Lacks text_mark (bytes "\\text{")
 unfolding Lacks

@@ -7,7 +7,8 @@ use Rattle.spec.specs.Result.{passed}
 use Rattle.spec.specs.Finish.{all_tall}
 use Rattle.spec.specs.Pipeline.{least_work, Call}
 use Rattle.spec.specs.Grammar.{variable, Sum, product, factor, fraction, atom, enclosed, Plain, text, latex, height}
-use Rattle.plain_printing.specs.Calls.{NoRecords, WithinLimits, accepting-call}
+use Rattle.plain_printing.specs.Calls.{NoRecords, WithinLimits}
+use Rattle.plain_printing.proofs.Calls.{accepting-call}
 
 abbrev nested : Sum
 nested = product (factor (fraction (atom (variable (code "a") refl)) (enclosed (product (factor (fraction (atom (variable (code "b") refl)) (atom (variable (code "c") refl))))))))

@@ -15,7 +15,7 @@ use Rattle.spec.specs.Laws.Booleans.{and_left, and_right, or_right}
 use Rattle.spec.specs.Laws.Names.{all_rows}
 use Rattle.plain_printing.specs.Tree.{Tree, TreeScript, Join, beside, plus, minus, atom, fraction, group, row, bare, symbol, inner, atom_writing, join_text, operand, parens, lone, slashless, slashless_script, height, height_script, unstacked, braced_style, final_style, write, write_script, either_way, stacked}
 use Rattle.plain_printing.specs.Classes.{apart, all-weaken}
-use Rattle.plain_printing.specs.Unlatex.{clash, clash-starts, no-command, letter-alnum, digit-alnum, greek-alnum}
+use Rattle.plain_printing.proofs.Unlatex.{clash, clash-starts, no-command, letter-alnum, digit-alnum, greek-alnum}
 
 -- ---- a command that a tree's text does not hold
 abbrev no_backslash : ℕ → Bool

@@ -22,13 +22,13 @@ use Rattle.held_placeholders.specs.Numbered.{placeholder, numbered, numbered_rom
 use Rattle.held_placeholders.specs.Fill.{fill}
 use Rattle.held_placeholders.specs.Broken.{marked}
 use Rattle.held_placeholders.specs.Numbering.{numbers, numbered-fill}
-use Rattle.held_placeholders.specs.PutBack.{rust-own}
+use Rattle.held_placeholders.proofs.PutBack.{rust-own}
 use Rattle.held_laws.specs.Rewriting.{Between, marks_of, sweep-marks}
 use Rattle.held_laws.specs.Instances.{EverySound, defined-between, fine_row, fine_rows, greek-fine, words-fine, greek-between, word-between, passed-one, stage-made, definitions-made, rows_made}
 use Rattle.held_laws.specs.Holding.{hold-texts-made, hold-both-made}
 use Rattle.held_placeholders.specs.Placeholders.{text_names, PlaceholderText, placed, hold_out, defined_all, rust_definitions, rewritten_all, rust_words}
 use Rattle.held_placeholders.specs.Numbers.{romans-plain, romans-text}
-use Rattle.held_placeholders.specs.Literal.{texts-held, both-held}
+use Rattle.held_placeholders.proofs.Literal.{texts-held, both-held}
 use Rattle.held_placeholders.specs.Commutes.{sweep-fill}
 
 abbrev pub placed_of : Held → PlaceholderText

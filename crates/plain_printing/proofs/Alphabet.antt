@@ -12,7 +12,7 @@ use Rattle.spec.specs.Laws.Symbols.{find_past}
 use Rattle.plain_printing.specs.Tree.{Tree, TreeScript, Style, Join, beside, plus, minus, atom, fraction, group, row, bare, symbol, inner, atom_writing, join_text, operand, lone, slashless, parens, script_brackets, unstacked, unsized, write, write_script, either_way}
 use Rattle.plain_printing.specs.Classes.{apart, all-weaken, all_append, any_of, any-all}
 use Rattle.plain_printing.specs.Rule.{ends_factor, last}
-use Rattle.plain_printing.specs.Unlatex.{letter-alnum, digit-alnum, greek-alnum}
+use Rattle.plain_printing.proofs.Unlatex.{letter-alnum, digit-alnum, greek-alnum}
 use Rattle.std.proofs.Math.Option.{none}
 
 abbrev pub plain_symbol : ℕ → Bool

@@ -19,7 +19,7 @@ use Rattle.spec.specs.Laws.Symbols.{until-append}
 use Rattle.plain_printing.specs.Tree.{atom_writing}
 use Rattle.plain_printing.specs.Classes.{apart, all-weaken}
 use Rattle.plain_printing.specs.Nest.{calm, Nest, through, back}
-use Rattle.plain_printing.specs.Written.{letter-operand_symbol, digit-operand_symbol, greek-letters}
+use Rattle.plain_printing.proofs.Written.{letter-operand_symbol, digit-operand_symbol, greek-letters}
 
 -- the end of what stands before a factor, last symbol first
 pub data Edge : List ℕ → Type 0 where

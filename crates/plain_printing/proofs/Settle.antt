@@ -12,9 +12,9 @@ use Rattle.spec.specs.Fractions.{convert_regular_fractions, settle}
 use Rattle.spec.specs.Laws.Result.{unpassed}
 use Rattle.spec.specs.Laws.Names.{same-eq, same_refl}
 use Rattle.plain_printing.specs.Tree.{Tree, height, braced_style, write}
-use Rattle.plain_printing.specs.Stacked.{from-height}
-use Rattle.plain_printing.specs.Round.{round-plain}
-use Rattle.plain_printing.specs.Growth.{rounds-grow}
+use Rattle.plain_printing.proofs.Stacked.{from-height}
+use Rattle.plain_printing.proofs.Round.{round-plain}
+use Rattle.plain_printing.proofs.Growth.{rounds-grow}
 
 some-injective : {s t : List ℕ} → ◌≡◌ {A = Option (List ℕ)} (some s) (some t) → s ≡ t
 some-injective e = cc

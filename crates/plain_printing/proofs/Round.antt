@@ -15,11 +15,11 @@ use Rattle.spec.specs.Fractions.{is_inside_subscript_context, nothing_done, frac
 use Rattle.spec.specs.Grammar.{Atom}
 use Rattle.plain_printing.specs.Tree.{Tree, TreeScript, Join, atom, fraction, group, row, bare, symbol, inner, atom_writing, operand, slashed, lone, height, height_script, braced_style, unstacked, write, write_script}
 use Rattle.plain_printing.specs.Nest.{Nest}
-use Rattle.plain_printing.specs.Alphabet.{tree-ends}
-use Rattle.plain_printing.specs.Written.{atom-nest, nest, nest-script, operand-nest}
-use Rattle.plain_printing.specs.Operand.{start, Stop, end, at-paren, at-brace, script-context-back, ReadAsOperand, group-operand, atom-operand, atom-word, Word}
-use Rattle.plain_printing.specs.Stacked.{run, from-height, atom-copied, join-copied, operand-copied, symbol-copied, tree-copied}
-use Rattle.plain_printing.specs.Turns.{Turns, weaken, kept, untouched, ◌then◌, Ahead, ahead-paren, ahead_within, ahead-brace, ahead-join, join-stop, outside-here, turn-fraction, turn-left}
+use Rattle.plain_printing.proofs.Alphabet.{tree-ends}
+use Rattle.plain_printing.proofs.Written.{atom-nest, nest, nest-script, operand-nest}
+use Rattle.plain_printing.proofs.Operand.{start, Stop, end, at-paren, at-brace, script-context-back, ReadAsOperand, group-operand, atom-operand, atom-word, Word}
+use Rattle.plain_printing.proofs.Stacked.{run, from-height, atom-copied, join-copied, operand-copied, symbol-copied, tree-copied}
+use Rattle.plain_printing.proofs.Turns.{Turns, weaken, kept, untouched, ◌then◌, Ahead, ahead-paren, ahead_within, ahead-brace, ahead-join, join-stop, outside-here, turn-fraction, turn-left}
 
 -- ---- operands of trees
 data Lone : Tree → Type 0 where

@@ -17,13 +17,13 @@ use Rattle.spec.specs.Laws.Booleans.{and_left, and_right}
 use Rattle.spec.specs.Laws.Symbols.{starts-unequal, until-append}
 use Rattle.plain_printing.specs.Tree.{Tree, TreeScript, Join, beside, plus, minus, atom, fraction, group, row, bare, symbol, inner, atom_writing, join_text, parens, slashless, height, braced_style, final_style, write, write_script, stacked}
 use Rattle.plain_printing.specs.Classes.{apart, none_of, excludes, all-weaken}
-use Rattle.plain_printing.specs.Unlatex.{bare_symbol, atom-bare}
+use Rattle.plain_printing.proofs.Unlatex.{bare_symbol, atom-bare}
 use Rattle.plain_printing.specs.Nest.{Nest, through}
-use Rattle.plain_printing.specs.Written.{nest}
-use Rattle.plain_printing.specs.Operand.{Edge, start, after-space, after-paren, after-brace, close-through, calm-side}
+use Rattle.plain_printing.proofs.Written.{nest}
+use Rattle.plain_printing.proofs.Operand.{Edge, start, after-space, after-paren, after-brace, close-through, calm-side}
 use Rattle.plain_printing.specs.Rule.{Marker, low, high}
-use Rattle.plain_printing.specs.Tall.{tall-tree}
-use Rattle.plain_printing.specs.Turns.{join-edge, edge-unmarked}
+use Rattle.plain_printing.proofs.Tall.{tall-tree}
+use Rattle.plain_printing.proofs.Turns.{join-edge, edge-unmarked}
 
 module _ (field : ℕ) where
   -- whether the field sizes parentheses with a fraction in them

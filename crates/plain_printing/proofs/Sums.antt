@@ -15,13 +15,13 @@ use Rattle.spec.specs.Finish.{frac_bit, tall}
 use Rattle.spec.specs.Pipeline.{typst_to_latex}
 use Rattle.spec.specs.Grammar.{Sum, proper, text, sum_latex, latex, height}
 use Rattle.plain_printing.specs.Tree
-use Rattle.plain_printing.specs.Unlatex.{latex-injective}
-use Rattle.plain_printing.specs.Tall.{only-frac, unsized-tree}
+use Rattle.plain_printing.proofs.Unlatex.{latex-injective}
+use Rattle.plain_printing.proofs.Tall.{only-frac, unsized-tree}
 use Rattle.plain_printing.specs.Yields.{Yields, yields-weaken}
-use Rattle.plain_printing.specs.Tables
-use Rattle.plain_printing.specs.Prints.{plain-yields, plain_fits}
-use Rattle.plain_printing.specs.TreeOf.{tree_of, height-tree, plain-tree}
-use Rattle.plain_printing.specs.TreeTexts.{text-tree, latex-tree}
+use Rattle.plain_printing.proofs.Tables
+use Rattle.plain_printing.proofs.Prints.{plain-yields, plain_fits}
+use Rattle.plain_printing.proofs.TreeOf.{tree_of, height-tree, plain-tree}
+use Rattle.plain_printing.proofs.TreeTexts.{text-tree, latex-tree}
 
 module _ (field : ℕ) where
   -- what numbers 7 and 5 ask: where it holds, no number refuses

@@ -20,7 +20,7 @@ use Rattle.spec.specs.Laws.Names.{same-eq}
 use Rattle.plain_printing.specs.Tree.{Tree, TreeScript, Join, beside, plus, minus, atom, fraction, group, row, bare, symbol, inner, atom_writing, join_text, operand, lone, slashed, typed_style, write, write_script}
 use Rattle.plain_printing.specs.Classes.{apart}
 use Rattle.plain_printing.specs.Rule.{Before, nothing, space, slash, paren, brace, last, Marker, low, high}
-use Rattle.plain_printing.specs.LocalTree.{digit-not-letter}
+use Rattle.plain_printing.proofs.LocalTree.{digit-not-letter}
 
 -- ---- rules for the rows of a table, by their places
 module _ {A : Type 0} (f : ℕ → A → Bool) where

@@ -9,7 +9,7 @@ use Rattle.spec.specs.Laws.Booleans.{and_left, and_right, or_right}
 use Rattle.spec.specs.Laws.Names.{all_rows, row-rule}
 use Rattle.plain_printing.specs.Tree.{Tree, TreeScript, Join, beside, plus, minus, atom, fraction, group, row, bare, symbol, inner, atom_writing, join_text, operand, lone, parens, slashless, height, height_script, typst_style, final_style, write, write_script, stacked, text, tree_latex}
 use Rattle.plain_printing.specs.Classes.{apart, all-weaken}
-use Rattle.plain_printing.specs.Written.{greek-letters}
+use Rattle.plain_printing.proofs.Written.{greek-letters}
 
 -- what a closing brace closes
 pub data Frame : Type 0 where

@@ -12,7 +12,7 @@ use Rattle.spec.specs.Grammar.{Atom}
 use Rattle.spec.specs.Laws.Booleans.{and_left, and_right}
 use Rattle.plain_printing.specs.Tree.{Tree, TreeScript, Style, Join, beside, plus, minus, atom, fraction, group, row, bare, symbol, inner, atom_writing, join_text, operand, height, height_script, braced_style, unsized, write, write_script, stacked}
 use Rattle.plain_printing.specs.Classes.{apart, all-weaken}
-use Rattle.plain_printing.specs.Written.{atom-operand_symbols}
+use Rattle.plain_printing.proofs.Written.{atom-operand_symbols}
 
 -- ---- from its height on a tree's text does not change
 mutual

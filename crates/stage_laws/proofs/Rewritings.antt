@@ -20,7 +20,8 @@ use Rattle.spec.specs.Fractions.{strip_outer_parens, frac, Done, nothing_done, b
 use Rattle.spec.specs.Laws.Booleans.{untrue}
 use Rattle.spec.specs.Laws.Names.{same_refl}
 use Rattle.stage_laws.specs.RustFractions.{rust_fractions}
-use Rattle.stage_laws.specs.LeftSlashes.{leaves, leaves_in_rounds, fractions-as-rust}
+use Rattle.stage_laws.specs.LeftSlashes.{leaves, leaves_in_rounds}
+use Rattle.stage_laws.proofs.LeftSlashes.{fractions-as-rust}
 use Rattle.stage_laws.specs.Slashes.{slashes, slashes-slash, slashes-other, slashes-more, slashes-reverse-onto, slashes-reverse, slashes-cut, slashes-operand, slashes-frac}
 use Rattle.stage_laws.specs.RoundCourse.{rewritings, Course, ends, passes, copies, stops, stays, waits, turns, course}
 

@@ -1,0 +1,26 @@
+-- Laws that an edit of a definition under them must refute, in the order in which they stand on each other.
+pub mod Written
+pub mod Operand
+pub mod Stacked
+pub mod Turns
+pub mod Round
+pub mod Settle
+pub mod Unlatex
+pub mod LocalTree
+pub mod Alphabet
+pub mod Tall
+pub mod SizingTree
+pub mod Absent
+pub mod WordsCopy
+pub mod Braces
+pub mod Greek
+pub mod Scripts
+pub mod Growth
+pub mod Tables
+pub mod Prints
+pub mod TreeOf
+pub mod TreeTexts
+pub mod Sums
+pub mod Calls
+pub mod Joins
+pub mod CallsExample
