@@ -23,7 +23,7 @@ use Rattle.stage_laws.specs.RustFractions.{rust_fractions}
 use Rattle.stage_laws.specs.LeftSlashes.{leaves, leaves_in_rounds}
 use Rattle.stage_laws.proofs.LeftSlashes.{fractions-as-rust}
 use Rattle.stage_laws.specs.Slashes.{slashes, slashes-slash, slashes-other, slashes-more, slashes-reverse-onto, slashes-reverse, slashes-cut, slashes-operand, slashes-frac}
-use Rattle.stage_laws.specs.RoundCourse.{rewritings, Course, ends, passes, copies, stops, stays, waits, turns, course}
+use Rattle.stage_laws.proofs.RoundCourse.{rewritings, Course, ends, passes, copies, stops, stays, waits, turns, course}
 
 -- ---- each rewriting takes away one
 -- The symbols read behind the end of the text rewritten last are the last that were written. Those that are still passed belong to that text.

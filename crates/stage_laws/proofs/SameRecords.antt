@@ -5,21 +5,22 @@
 --     calls-alike        so it is where both tables have more than 32,768 bytes, or neither has
 --     calls_same         so it is where both are of one form
 --     wide-calls-same    so it is where one is narrow and the other wide, if the wide one, which is longer, is not too long
-use Rattle.std.specs.Prelude.{◌≡◌, refl, Bool, true, false, ◌||◌, List, ◌⊎◌, ℕ, ◌+◌, ◌≤◌, ltb, length}
-use Rattle.std.proofs.Common.{sym, ap₂, ◌∙◌, inl, inr, ⊎_elim, arith, le-ltb}
+use Rattle.std.specs.Prelude.{◌≡◌, refl, Bool, true, false, ◌||◌, List, ◌⊎◌, ℕ, ◌≤◌, ltb, length}
+use Rattle.std.proofs.Common.{sym, ap₂, ◌∙◌, inl, inr, ⊎_elim}
 use Rattle.std.proofs.Math.Path.{ap}
 use Rattle.std.proofs.Math.Option.{none, some}
 use Rattle.spec.specs.Result.{Result, passed, refused, ◌then◌, stage}
-use Rattle.spec.specs.Table.{Definition, Form, narrow, wide, form_of, start, most_bytes, most_records, faulty, definitions, in_order}
+use Rattle.spec.specs.Table.{Definition, narrow, wide, form_of, most_bytes, most_records, faulty, definitions, in_order}
 use Rattle.spec.specs.Held.{hold_texts, put_back}
 use Rattle.spec.specs.Definitions.{apply_definitions, apply_definitions_outside_text}
 use Rattle.spec.specs.Finish.{convert_alignment, drop_thin_space_after_commands}
 use Rattle.spec.specs.Pipeline.{convert_syntax, typst_to_latex, definitions_or, readable, admitted, fitting, converted, answer_of, output_after, work_after}
 use Rattle.spec.specs.Laws.Booleans.{or-neither}
 use Rattle.spec.specs.Laws.Order.{in-order-same, Distinct}
-use Rattle.spec.specs.Laws.Table.{bytes_of_records, records-long, bytes-wide, bytes_same, length-same, faulty-same, sound-distinct, definitions_unless, wrong, definitions-unless, admitted-same}
+use Rattle.spec.specs.Laws.Table.{length-same, faulty-same, sound-distinct, definitions_unless, wrong, definitions-unless, admitted-same}
 use Rattle.stage_laws.specs.Stages.{before_definitions}
 use Rattle.stage_laws.specs.SameRecords.{SameRecords, CallsAlike, SameLimit}
+use Rattle.stage_laws.proofs.SameLimits.{form-limit, wide-limit}
 
 -- ---- only the order of the definitions counts
 then_same : {A B : Type 0} (r : Result A) {f g : A → Result B} → ((a : A) → f a ≡ g a) → (r then f) ≡ (r then g)
@@ -63,30 +64,6 @@ module _ {table table' : List ℕ} (t : SameRecords table table') where
   definitions-same limit formula =
       ⊎_elim (λ n. rw (n.0, n.1) (refl, refl)) (λ s. rw (s.0, s.1.0) (refl, in-order-same t.rearranged s.1.1)) (definitions-both limit)
 
-  -- ---- how long they are
-  pub form-limit : form_of table ≡ form_of table' → SameLimit table table'
-  form-limit e =
-      let form = form_of table' in
-      ap (ltb most_bytes)
-      (records-long table t.first t.read
-      ∙ ap (λ (f : Form). start f + bytes_of_records f t.first) e
-      ∙ ap (λ n. start form + n) (bytes_same form t.rearranged)
-      ∙ sym (records-long table' t.second t.read'))
-
-  -- the wide form takes its own byte and one more for each record
-  pub wide-longer : form_of table ≡ narrow → form_of table' ≡ wide → length table' ≡ length table + 1 + length t.second
-  wide-longer e f =
-      let a = records-long table t.first t.read ∙ ap (λ (form : Form). start form + bytes_of_records form t.first) e in
-      let b = records-long table' t.second t.read' ∙ ap (λ (form : Form). start form + bytes_of_records form t.second) f in
-      let c = bytes_same narrow t.rearranged in
-      let d = bytes-wide t.second in
-      omega arith
-
-  pub wide-limit : form_of table ≡ narrow → form_of table' ≡ wide → length table' ≤ most_bytes → SameLimit table table'
-  wide-limit e f short =
-      let longer = wide-longer e f in
-      le-ltb most_bytes (length table) (omega arith) ∙ sym (le-ltb most_bytes (length table') (omega arith))
-
   -- ---- calls
   module _ (limit : SameLimit table table') where
     pub converted-same :
@@ -105,7 +82,7 @@ module _ {table table' : List ℕ} (t : SameRecords table table') where
         )
 
   pub calls_same : form_of table ≡ form_of table' → CallsAlike table table'
-  calls_same e = calls-alike (form-limit e)
+  calls_same e = calls-alike (form-limit t e)
 
   pub wide-calls-same : form_of table ≡ narrow → form_of table' ≡ wide → length table' ≤ most_bytes → CallsAlike table table'
-  wide-calls-same e f short = calls-alike (wide-limit e f short)
+  wide-calls-same e f short = calls-alike (wide-limit t e f short)

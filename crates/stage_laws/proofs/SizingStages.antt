@@ -3,19 +3,15 @@
 --     converted-as-rust-sizing    so a call comes to what it comes to with the Rust's
 --     rust-sizing-call            and has its answer and bytes
 --     undisplayed-same            with the display off, a call comes to the same by every field
-use Rattle.std.specs.Prelude.{◌≡◌, refl, Bool, true, false, List, [], ◌∷◌, ℕ, zero, suc, ◌≤◌, ltb, length}
+use Rattle.std.specs.Prelude.{◌≡◌, refl, Bool, true, false, List, [], ℕ, zero, suc, ◌≤◌, ltb, length}
 use Rattle.std.proofs.Common.{sym, ap, ◌∙◌, le-ltb}
 use Rattle.std.proofs.Math.Path.{fun_ext}
 use Rattle.spec.specs.Result.{Result, refused, ◌then◌}
-use Rattle.spec.specs.Finish.{all_tall, tall_group, size_step, size_with, size_delimiters_to_content}
+use Rattle.spec.specs.Finish.{all_tall, size_with, size_delimiters_to_content}
 use Rattle.spec.specs.Pipeline.{least_work, definitions_or, checked, admitted, convert_syntax, typst_to_latex, fitting, converted, answer_of, output_after, work_after, Call}
 use Rattle.stage_laws.specs.Answers.{call-as}
-use Rattle.stage_laws.specs.RustSizing.{rust_tall_group, rust_size_step, rust_size_with, rust_sizing, latex_with_sizing, admitted_without_field, converted_with_rust_sizing}
-
-step-as-rust : (go : List ℕ → List ℕ → List ℕ) (o s : List ℕ) → size_step all_tall go o s ≡ rust_size_step go o s
-unfolding size_step tall_group rust_size_step rust_tall_group
-step-as-rust go o [] = refl
-step-as-rust go o (x ∷ s) = refl
+use Rattle.stage_laws.specs.RustSizing.{rust_size_step, rust_size_with, rust_sizing, latex_with_sizing, admitted_without_field, converted_with_rust_sizing}
+use Rattle.stage_laws.proofs.SizingSteps.{step-as-rust}
 
 with-as-rust : (k : ℕ) (o s : List ℕ) → size_with all_tall k o s ≡ rust_size_with k o s
 unfolding size_with rust_size_with

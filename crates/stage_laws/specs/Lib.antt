@@ -16,4 +16,3 @@ pub mod LeftSlashes
 pub mod RustSizing
 pub mod OperandLengths
 pub mod Slashes
-pub mod RoundCourse

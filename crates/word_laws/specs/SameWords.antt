@@ -24,7 +24,8 @@ use Rattle.table.specs.declared.Reading.{Reading}
 use Rattle.table.specs.declared.Reading.TheVariants.{Whole, End, Unreadable}
 use Rattle.table_names.specs.Named.{named_here, named-behind}
 use Rattle.stage_laws.specs.SameRecords.{SameRecords, SameLimit}
-use Rattle.stage_laws.proofs.SameRecords.{definitions-both, form-limit, wide-limit}
+use Rattle.stage_laws.proofs.SameLimits.{form-limit, wide-limit}
+use Rattle.stage_laws.proofs.SameRecords.{definitions-both}
 
 abbrev pub latex_for : List ℕ → List Definition → Option (List ℕ)
 latex_for name [] = none
