@@ -1,4 +1,4 @@
-use Rattle.std.proofs.Common.{◌≡◌, ◌+◌, ◌-◌, ◌/◌, ◌%◌, mod-lt, div-add-mod', arith, length-set}
+use Rattle.std.proofs.Common.{◌≡◌, ◌-◌, ◌/◌, ◌%◌, mod-lt, div-add-mod', arith, length-set}
 use Rattle.plain_short.specs.Spelling.{spelling-goes-on, spelling-ends, spelling-room}
 use Rattle.plain_short.proofs.spelling.spell.Goals as goal
 
