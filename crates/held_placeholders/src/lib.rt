@@ -1,2 +1,2 @@
-// That held blocks are what the Rust's numbered placeholders come to, wherever these lose none, is in specs/; there is no code here.
+// That held blocks are what the Rust's numbered placeholders come to, wherever these lose none, is in specs/ and proofs/; there is no code here.
 #![tactic(auto)]
