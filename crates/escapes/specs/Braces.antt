@@ -13,7 +13,8 @@ use Rattle.spec.specs.Symbols.{bytes, is, head, find}
 use Rattle.spec.specs.Closing.{close}
 use Rattle.spec.specs.Finish.{groups_behind, top, popped, brace, escape_braces, escape_set_braces}
 use Rattle.spec.specs.Laws.Symbols.{drop-step, find-nowhere}
-use Rattle.spec.proofs.Braces.{bare_behind, stack_behind, escape-step}
+use Rattle.spec.specs.Laws.Braces.{bare_behind, stack_behind}
+use Rattle.spec.proofs.Braces.{escape-step}
 use Rattle.text_symbols.specs.Parts.{part, length_part}
 use Rattle.text.specs.Writer.{Regions, Appended}
 use Rattle.text.specs.Filling.{Filling, filling-more, filling-source, filling-symbol}

@@ -1,42 +1,36 @@
 // Reading into a buffer: as many bytes as there are, or as fit.
 #![tactic(auto)]
 
-ghost use Rattle.std.specs.Prelude.{◌≢◌, ◌<◌, ◌≤◌, length, take, IfOk, IfErr};
+ghost use Rattle.std.specs.Prelude.{◌<◌, ◌≤◌, length, take, IfOk};
 ghost use Rattle.std.specs.Io.KnownBytes.{Consumes, IsAtEnd};
-ghost use Rattle.std.specs.IoError.{error_kind};
 
 use std::io;
-use std::io::{ErrorKind, Read};
+use std::io::Read;
 
-// Reads until the buffer is full or the input ends, in pieces of any size, and answers how many bytes stand at the start of the buffer. A read that
-// a signal interrupts is tried again, and an end is not waited for longer than std waits: 2^64 reads.
+// Reads until the buffer is full or the input ends, in pieces of any size, and answers how many bytes stand at the start of the buffer.
 pub fn read_full<R: Read>(reader: &mut R, buffer: &mut [u8]) -> io::Result<usize>
     ensures bound { IfOk result (λ n. n ≤ length buffer.new) }
     ensures bytes { IfOk result (λ n. Consumes (R.remaining reader.old) (R.remaining reader.new) (take n buffer.new)) }
     ensures end { IfOk result (λ n. n < length buffer.new → IsAtEnd (R.remaining reader.new)) }
-    ensures retried { IfErr result (λ e. error_kind e ≢ ErrorKind.Interrupted) }
 {
     let mut n = 0;
-    for _ in 0..u64::MAX {
-        if n == buffer.len() {
+    while n < buffer.len() {
+        let more = reader.read(&mut buffer[n..])?;
+        if more == 0 {
             return Ok(n);
         }
-        match reader.read(&mut buffer[n..]) {
-            Ok(0) => return Ok(n),
-            Ok(more) => n += more,
-            Err(e) if e.kind() == ErrorKind::Interrupted => {}
-            Err(e) => return Err(e),
-        }
+        n += more;
     }
-    Err(io::Error::from(ErrorKind::TimedOut))
+    Ok(n)
 }
 
 #[cfg(test)]
 mod tests {
     use super::*;
+    use std::io::ErrorKind;
     use std::test::Fail;
 
-    // Is interrupted before each of three bytes, 2, 4 and 6, and fails behind the last.
+    // Gives three bytes, one at a time, 1, 2 and 3, and fails behind the last.
     #[derive(Drop)]
     struct Halting {
         turn: u8,
@@ -44,31 +38,28 @@ mod tests {
 
     impl Read for Halting {
         fn read(&mut self, buf: &mut [u8]) -> io::Result<usize> {
-            if 6 <= self.turn {
+            if 3 <= self.turn {
                 return Err(io::Error::from(ErrorKind::BrokenPipe));
-            }
-            self.turn += 1;
-            if self.turn % 2 == 1 {
-                return Err(io::Error::from(ErrorKind::Interrupted));
             }
             if buf.is_empty() {
                 return Ok(0);
             }
+            self.turn += 1;
             buf[0] = self.turn;
             Ok(1)
         }
     }
 
     #[test]
-    fn goes_on_after_an_interruption(rt: HostRuntime) -> Result<(), Fail> {
+    fn asks_no_more_than_fits(rt: HostRuntime) -> Result<(), Fail> {
         let mut buffer = [9; 3];
         assert_eq!(rt; read_full(&mut Halting { turn: 0 }, &mut buffer)?, 3);
-        assert_eq!(rt; buffer, [2, 4, 6]);
+        assert_eq!(rt; buffer, [1, 2, 3]);
         Ok(())
     }
 
     #[test]
-    fn hands_on_another_error(rt: HostRuntime) {
+    fn hands_on_an_error(rt: HostRuntime) {
         let mut buffer = [9; 4];
         match read_full(&mut Halting { turn: 0 }, &mut buffer) {
             Ok(n) => assert!(rt; false, "{n} bytes"),

@@ -16,15 +16,9 @@ use Rattle.spec.specs.Symbols.{bytes, is, letter, digit, past}
 use Rattle.spec.specs.Finish.{groups_behind, top, popped, brace, escape_braces, escape_set_braces}
 use Rattle.spec.specs.Braces.{symbol_stack, text_stack, last_opened, opener_of, inserted, keeps_bare, EscapesBraces}
 use Rattle.spec.specs.Laws.Booleans.{or_right}
+use Rattle.spec.specs.Laws.Braces.{bare_behind, stack_behind}
 
 -- ---- one symbol of the step
--- whether x is written as it is
-abbrev pub bare_behind : List Bool → ℕ → ℕ → Bool
-bare_behind stack before x = elim (is "{" x) [ true ↦ groups_behind before | false ↦ elim (is "}" x) [ true ↦ top stack | false ↦ true ] ]
-
-abbrev pub stack_behind : List Bool → ℕ → ℕ → List Bool
-stack_behind stack before x = elim (is "{" x) [ true ↦ groups_behind before ∷ stack | false ↦ elim (is "}" x) [ true ↦ popped stack | false ↦ stack ] ]
-
 pub escape-step : (stack : List Bool) (before x : ℕ) (s : List ℕ) → escape_braces stack before (x ∷ s) ≡ brace (bare_behind stack before x) x ++ escape_braces (stack_behind stack before x) x s
 unfolding escape_braces
 escape-step stack before x s = go (is "{" x) refl (is "}" x) refl

@@ -7,6 +7,7 @@ pub mod Ends
 pub mod Sweep
 pub mod Closing
 pub mod Absent
+pub mod Braces
 pub mod Matches
 pub mod Held
 pub mod Attach

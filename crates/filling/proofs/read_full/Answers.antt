@@ -1,11 +1,11 @@
+-- `filling::read_full` goes on behind a piece that was read. Assumes nothing.
 use Rattle.std.proofs.Common.{◌≡◌, ℕ, ◌+◌, ◌-◌, ◌≤◌, List, ◌++◌, rules, arith, length, take, slice_range, sym, ap, ◌∙◌, subst, le_refl, drop_at, length-take-le}
 use Rattle.std.proofs.lemmas.Slice.{take-put_mid_below}
 use Rattle.std.specs.Io.KnownBytes.{Consumes}
-use Rattle.std.proofs.KnownBytes.{Consumes-trans, Consumes-kept}
+use Rattle.std.proofs.KnownBytes.{Consumes-trans}
 use borrow.Rule.Slice.PartMut.{put_mid, post_of}
 use lib.Seq.{take-add, take-append-le}
 use Rattle.filling.proofs.read_full.Goals as goal
-use Rattle.filling.proofs.read_full.Goals.{in-Ok, in-Err}
 
 -- the bytes up to b are those up to a, which are as before, and the piece between
 take_split : (a b : ℕ) (old new : List ℕ) → a ≤ b → take a new ≡ take a old → take a old ++ slice_range new a b ≡ take b new
@@ -20,20 +20,15 @@ slice_range-put_mid a k n xs ys within fits =
     let after = post_of a k xs in
     ap (take ((a + n) - a)) (drop_at (take a xs) (ys ++ after) a (length-take-le a xs within)) ∙ ap (λ m. take m (ys ++ after)) same ∙ take-append-le n ys after fits
 
-pub loop-preserved : goal.loop-preserved
-loop-preserved g c =
-    let from = c.loop.n in
-    let room = length c.loop.buffer - from in
-    let within = c.loop.invariant.1 in
-    let after = put_mid from room c.loop.buffer c.read.new.buf in
-    let front : take from after ≡ take from c.loop.buffer = take-put_mid_below _ _ _ _ _ (le_refl _) within in
-    elim c.match-read.branch [
-      | in-Ok w ↦
-          let more = w.in-Ok.more in
-          let part = slice_range-put_mid from room more c.loop.buffer c.read.new.buf within w.in-Ok.ensures.bound.0 in
-          let joined = take_split from (from + more) c.loop.buffer after (omega arith) front in
-          let read = subst (Consumes _ _) (ap (λ l. take from c.loop.buffer ++ l) (sym part) ∙ joined) (Consumes-trans _ _ _ _ _ c.loop.invariant.2 w.in-Ok.ensures.bytes.0) in
-          (search rules, search rules, rw w.n-is read)
-      | in-Err w ↦
-          (search rules, search rules, rw w.n-is (subst (Consumes _ _) (sym front) (Consumes-kept _ _ _ _ c.loop.invariant.2 w.in-Err.ensures.bytes)))
-    ]
+pub loop-n-preserved : goal.loop-n-preserved
+loop-n-preserved g c =
+    let from = c.loop-n.n in
+    let more = c.in_ok-more.more in
+    let room = length c.loop-n.buffer - from in
+    let within = c.loop-n.invariant.1 in
+    let after = put_mid from room c.loop-n.buffer c.read.new.buf in
+    let front : take from after ≡ take from c.loop-n.buffer = take-put_mid_below _ _ _ _ _ (le_refl _) within in
+    let part = slice_range-put_mid from room more c.loop-n.buffer c.read.new.buf within c.in_ok-more.ensures.bound.0 in
+    let joined = take_split from (from + more) c.loop-n.buffer after (omega arith) front in
+    let read = subst (Consumes _ _) (ap (λ l. take from c.loop-n.buffer ++ l) (sym part) ∙ joined) (Consumes-trans _ _ _ _ _ c.loop-n.invariant.2 c.in_ok-more.ensures.bytes.0) in
+    (search rules, search rules, read)
