@@ -1,15 +1,20 @@
 -- The stage of line breaks and alignment: its cases, and the turns of the loop that writes lines. Assumes nothing.
 --     Lines, Aligned       what the code has appended
-use Rattle.std.specs.Prelude.{◌≡◌, refl, Bool, true, false, ◌&&◌, ◌||◌, List, [], ◌∷◌, ◌++◌, reverse, ℕ, suc, ◌+◌, ◌-◌, ◌*◌, ◌≤◌, ◌<◌, eqb, length, get_or, drop}
+use Rattle.std.specs.Prelude.{◌≡◌, refl, Bool, true, false, ◌&&◌, ◌||◌, List, [], ◌∷◌, ◌++◌, ℕ, suc, ◌+◌, ◌-◌, ◌*◌, ◌≤◌, ◌<◌, eqb, length, get_or, drop}
 use Rattle.std.proofs.Common.{sym, ap, ap₂, ◌∙◌, subst, add-one, arith, length-drop, eq-eqb, ne_eqb}
 use Prim.Native.Char.{code}
-use Rattle.spec.specs.Result.{most_symbols}
+use Rattle.std.specs.List.{ends_with}
+use lib.Pointwise.{pointwise}
+use Rattle.std.proofs.Math.Bool.{and_comm}
+use Rattle.spec.specs.Laws.Names.{eqb-sym}
+use Rattle.spec.specs.Laws.Ends.{ends-front}
 use Rattle.spec.specs.Symbols.{bytes, is, empty, trim, starts, ends}
 use Rattle.spec.specs.Finish.{has_alignment, has_line_breaks, line_breaks, aligned, convert_alignment}
 use Rattle.spec.specs.Laws.Symbols.{drop-step, head-drop}
 use Rattle.text_symbols.specs.Parts.{part, length_part, whole_part}
+use Rattle.text.specs.declared.writer.Writer.{Writer}
 use Rattle.text.specs.Writer.{Regions, Appended, appended-more}
-use Rattle.text_symbols.specs.Places.{before, before-all, before-next}
+use Rattle.text_symbols.specs.Places.{before}
 use Rattle.text.specs.Filling.{Filling, filling-more, filling-source, filling-symbol}
 use Rattle.text_symbols.specs.declared.Span.{Span}
 use Rattle.alignment.specs.Breaks.{break_at, piece, lined, lined-all, lines-with-breaks}
@@ -50,22 +55,22 @@ break-is s i before next h b n =
         go [] e = let l = length-drop (i + 1) s in let z = ap length e in eq-eqb (length s) (i + 1) (omega arith)
         go (x ∷ t) e = let l = length-drop (i + 1) s in let z = ap length e in ne_eqb (length s) (i + 1) (λ q. omega arith)
 
-pub ends-none : (s : List ℕ) → length s < 2 → ends (bytes " \\") s ≡ false
-ends-none [] h = refl
-ends-none (x ∷ []) h = refl
-ends-none (x ∷ y ∷ s) h = absurd (omega arith)
+-- the slice's own test of how it ends is that of the definitions
+pointwise-starts : (w t : List ℕ) → length t ≤ length w → pointwise eqb w t ≡ starts w t
+pointwise-starts [] [] h = refl
+pointwise-starts [] (x ∷ t) h = absurd (omega arith)
+pointwise-starts (k ∷ w) [] h = refl
+pointwise-starts (k ∷ w) (x ∷ t) h =
+    ap (λ b. eqb k x && b) (pointwise-starts w t (omega arith)) ∙ and_comm (eqb k x) (starts w t) ∙ ap (λ b. starts w t && b) (eqb-sym k x)
 
-pub ends_is : (s : List ℕ) → 2 ≤ length s → is " " (get_or s (length s - 2) 0) && is "\\" (get_or s (length s - 1) 0) ≡ ends (bytes " \\") s
-ends_is s h =
-    let n = length s in
-    let a : n ≡ n - 1 + 1 = omega arith in
-    let b : n - 1 ≡ n - 2 + 1 = omega arith in
-    let all : before s (n - 1 + 1) ≡ reverse s = ap (before s) (sym a) ∙ before-all s in
-    let two : reverse s ≡ get_or s (n - 1) 0 ∷ get_or s (n - 2) 0 ∷ before s (n - 2) =
-    sym all ∙ before-next s (n - 1) (omega arith)
-    ∙ ap (λ t. get_or s (n - 1) 0 ∷ t) (ap (before s) b ∙ before-next s (n - 2) (omega arith))
-    in
-    sym (ap (starts (code "\\" ∷ code " " ∷ [])) two)
+pub ends-slice : (w s : List ℕ) → ends_with eqb s w ≡ ends w s
+ends-slice w s =
+    let l = length-drop (length s - length w) s in
+    pointwise-starts w (drop (length s - length w) s) (omega arith) ∙ sym (ends-front w s)
+
+-- a test of the whole text, as the code reads it
+pub whole-test : (f : List ℕ → Bool) (from n : ℕ) (w : List ℕ) {b t : Bool} → b ≡ f (part from (from + n - from) w) → b ≡ t → f (part from n w) ≡ t
+whole-test f from n w e g = ap f (sym (whole_part from n w)) ∙ sym e ∙ g
 
 -- ---- the cases of the stage
 pub align-some : (s : List ℕ) → has_alignment s ≡ true → convert_alignment s ≡ aligned (line_breaks s)
@@ -81,39 +86,39 @@ unfolding convert_alignment
 align-none s e f = rw (e, f, convert_alignment)
 
 -- ---- what has been appended
-pub record Lines (w w' : List ℕ) (from n to count r start stop : ℕ) : Type 0 where
-  pub appended : Appended w w' to most_symbols count r (lined_to (part from n w) stop start)
-  pub few : r ≤ count + 2 * (stop - start)
+pub record Lines (w w' : List ℕ) (from n : ℕ) (o o' : Writer) (start stop : ℕ) : Type 0 where
+  pub appended : Appended w w' o o' (lined_to (part from n w) stop start)
+  pub few : o'.count ≤ o.count + 2 * (stop - start)
 
-pub record Aligned (w w' : List ℕ) (from n to r : ℕ) : Type 0 where
-  pub appended : Appended w w' to most_symbols 0 r (aligned (line_breaks (part from n w)))
+pub record Aligned (w w' : List ℕ) (from n : ℕ) (o o' : Writer) : Type 0 where
+  pub appended : Appended w w' o o' (aligned (line_breaks (part from n w)))
 
 pub aligned-by :
-    {w w₁ w₂ w₃ : List ℕ} {from n to a b r : ℕ} {span : Span}
+    {w w₁ w₂ w₃ : List ℕ} {from n : ℕ} {o a b r : Writer} {span : Span}
     → Trimmed (part from (from + n - from) w) span → part from n w₁ ≡ part from n w
-    → Appended w w₁ to most_symbols 0 a (bytes "\\begin{aligned}\n")
-    → Appended w₁ w₂ to most_symbols a b (lined_to (part from n w₁) span.end span.start)
-    → Appended w₂ w₃ to most_symbols b r (bytes "\n\\end{aligned}")
-    → Aligned w w₃ from n to r
+    → Appended w w₁ o a (bytes "\\begin{aligned}\n")
+    → Appended w₁ w₂ a b (lined_to (part from n w₁) span.end span.start)
+    → Appended w₂ w₃ b r (bytes "\n\\end{aligned}")
+    → Aligned w w₃ from n o r
 unfolding lined_to
-aligned-by {w} {w₁} {w₂} {w₃} {from} {n} {to} {a} {b} {r} {span} trimmed same opens lines closes =
+aligned-by {w} {w₁} {w₂} {w₃} {from} {n} {a} {b} {r} {span} trimmed same opens lines closes =
     let s = part from n w in
     let t : Trimmed s span = subst (λ u. Trimmed u span) (whole_part from n w) trimmed in
     let e : lined_to (part from n w₁) span.end span.start ≡ trim (line_breaks s) =
     ap (λ u. lined_to u span.end span.start) same ∙ sym (ap trim (lines-with-breaks s) ∙ trim-with-breaks s t)
     in
     record {
-      appended = appended-more (appended-more opens (subst (Appended w₁ w₂ to most_symbols a b) e lines)) closes;
+      appended = appended-more (appended-more opens (subst (Appended w₁ w₂ a b) e lines)) closes;
     }
 
 -- ---- a turn of the loop: the symbol at place i has been written
 module _
-    {w₀ w w' : List ℕ} {from n to cap count₀ count count' stop i : ℕ} {whole : List ℕ} {twice : Bool}
-    (regions : Regions w₀ from n to cap count₀) (filling : Filling w₀ w to cap count₀ count (lined_to (part from n w₀) stop i) whole)
+    {w₀ w w' : List ℕ} {from n : ℕ} {o₀ o o' : Writer} {stop i : ℕ} {whole : List ℕ} {twice : Bool}
+    (regions : Regions w₀ from n o₀) (filling : Filling w₀ w o₀ o (lined_to (part from n w₀) stop i) whole)
     (more : i < stop) (within : stop ≤ n)
-    (test : twice ≡ break_at (part from (from + n - from) w) i) (a : Appended w w' to cap count count' (piece (get_or w (from + i) 0) twice))
+    (test : twice ≡ break_at (part from (from + n - from) w) i) (a : Appended w w' o o' (piece (get_or w (from + i) 0) twice))
   where
-    pub lines_more : Filling w₀ w' to cap count₀ count' (lined_to (part from n w₀) stop (i + 1)) whole
+    pub lines_more : Filling w₀ w' o₀ o' (lined_to (part from n w₀) stop (i + 1)) whole
     lines_more =
         let l = length_part from n w₀ regions.source in
         filling-more filling a
@@ -122,7 +127,7 @@ module _
         (sym (filling-symbol filling from n regions.apart i (omega arith)))
         (sym (test ∙ ap (λ s. break_at s i) (filling-source filling from n regions.apart))))
 
-    pub lines-few : count' ≤ count + 2
+    pub lines-few : o'.count ≤ o.count + 2
     lines-few = let c = a.counted in let l = short twice (get_or w (from + i) 0) in omega arith
       where
         short : (b : Bool) (x : ℕ) → length (piece x b) ≤ 2

@@ -8,7 +8,7 @@ ghost use Rattle.word_at.specs.Parts.{meaning as word_meaning};
 ghost use Rattle.answer_codes.specs.Codes.{result_of, plain_answer_of, part_coded, Ordered};
 
 use entry_ends::Answer;
-use plain_check::PlainAnswer;
+use text::Refusal;
 use word_at::WordPlace;
 
 // 0, and the bytes of LaTeX in `count`; or the number of the refusal, and 0.
@@ -17,58 +17,57 @@ pub fn answer_code(answer: Answer, count: &mut usize) -> u64
     ensures count_after { (result ≡ 0 → ⊥) → count.new ≡ 0 }
 {
     match answer {
-        Answer::Done(n) => {
+        Ok(n) => {
             *count = n;
             0
         }
-        Answer::Refused(why) => {
+        Err(why) => {
             *count = 0;
-            text::number(why)
+            u64::from(why)
         }
     }
 }
 
 // Whether the answer is yes, and the atoms, or 0.
-pub fn plain_code(answer: PlainAnswer, atoms: &mut usize) -> bool
+pub fn plain_code(answer: Option<usize>, atoms: &mut usize) -> bool
     ensures answer_value { answer ≡ plain_answer_of result atoms.new }
     ensures atoms_after { result ≡ false → atoms.new ≡ 0 }
 {
-    match answer {
-        PlainAnswer::Yes(n) => {
-            *atoms = n;
-            true
-        }
-        PlainAnswer::No => {
-            *atoms = 0;
-            false
-        }
-    }
+    *atoms = answer.unwrap_or(0);
+    answer.is_some()
 }
 
 // 0, and the part by its side, place and length; or the number of the refusal, and the formula's empty beginning.
-pub fn word_code(found: WordPlace, defined: &mut bool, start: &mut usize, length: &mut usize) -> u64
+pub fn word_code(
+    found: Result<WordPlace, Refusal>,
+    defined: &mut bool,
+    start: &mut usize,
+    length: &mut usize,
+) -> u64
     requires { Ordered found }
     ensures value { result ≡ number_of (word_meaning found) }
     ensures length_after { part_coded defined.new start.new length.new ≡ part_of (word_meaning found) }
 {
-    match found {
-        WordPlace::InFormula(from, to) => {
-            *defined = false;
-            *start = from;
-            *length = to - from;
-            0
-        }
-        WordPlace::InTable(from, to) => {
-            *defined = true;
-            *start = from;
-            *length = to - from;
-            0
-        }
-        WordPlace::Refused(why) => {
+    let place = match found {
+        Ok(place) => place,
+        Err(why) => {
             *defined = false;
             *start = 0;
             *length = 0;
-            text::number(why)
+            return u64::from(why);
+        }
+    };
+    match place {
+        WordPlace::InFormula(word) => {
+            *defined = false;
+            *start = word.start;
+            *length = word.end - word.start;
+        }
+        WordPlace::InTable(latex) => {
+            *defined = true;
+            *start = latex.start;
+            *length = latex.end - latex.start;
         }
     }
+    0
 }

@@ -1,5 +1,6 @@
 -- The arguments of `attach`. Assumes nothing.
-use Rattle.std.specs.Prelude.{◌≡◌, List, [], ℕ, ◌+◌, ◌-◌, ◌≤◌, take, drop}
+--     SubscriptFound    what `subscript_of` answers
+use Rattle.std.specs.Prelude.{◌≡◌, List, [], ℕ, ◌+◌, ◌-◌, ◌≤◌, ◌<◌, take, drop}
 use Rattle.std.proofs.Common.{sym, ap, ap₂, ◌∙◌, arith, length-take, length-drop, drop-drop, take-take}
 use Rattle.std.proofs.Math.Option.{Option, none, some}
 use Rattle.spec.specs.Symbols.{bytes, is, find, inside, trim, drop_while_end}
@@ -10,8 +11,8 @@ use Rattle.text_symbols.specs.Parts.{part, drop-take}
 use Rattle.text_search.specs.Search.{Finds, finds-at, finds-nothing, Closes, closes-at, closes-within, closes-nothing, inside-drop}
 use Rattle.text_symbols.specs.Trim.{Within, Narrowed, spanned}
 use Rattle.text_symbols.specs.declared.Span.{Span}
-use Rattle.text_search.specs.declared.Found.{Found}
-use Rattle.text_search.specs.declared.Found.TheVariants.{At, Nothing}
+use Rattle.text_search.specs.Search.{Found}
+use Rattle.std.specs.Prelude.{Option as Maybe, Some, None}
 
 -- ---- the definitions, by what has been found
 abbrev bottom_by : List ℕ → Option (List ℕ) → List ℕ
@@ -22,10 +23,10 @@ subscript_by o = elim o [ some at ↦ bottom (trim (drop 2 at)) | none ↦ [] ]
 
 -- ---- what stands behind `b:`
 module _ {s : List ℕ} {p : Span} (within : Within s p) {q : Found} (comma : Closes (spanned p s) q (find_unescaped_comma (spanned p s))) where
-  pub bottom-end : {r : Span} → q ≡ Nothing → Narrowed s p r (drop_while_end (is ")") (spanned p s)) → Narrowed s p r (bottom (spanned p s))
+  pub bottom-end : {r : Span} → q ≡ None → Narrowed s p r (drop_while_end (is ")") (spanned p s)) → Narrowed s p r (bottom (spanned p s))
   bottom-end e n = record { from = n.from; order = n.order; to = n.to; text = n.text ∙ sym (ap (bottom_by (spanned p s)) (closes-nothing comma e)) }
 
-  module _ {j : ℕ} (e : q ≡ At j) where
+  module _ {j : ℕ} (e : q ≡ Some j) where
     pub bottom-fits : p.start + j ≤ p.end
     bottom-fits =
         let w = closes-within comma e in let l = length-take (p.end - p.start) (drop p.start s) in let o = within.order in omega arith
@@ -47,19 +48,16 @@ module _ {s : List ℕ} {p : Span} (within : Within s p) {q : Found} (comma : Cl
         }
 
 -- ---- the subscript
-module _ {s : List ℕ} {p : Span} (within : Within s p) {q : Found} (finds : Finds (spanned p s) q (find (bytes "b:") (spanned p s))) where
-  pub subscript-none : q ≡ Nothing → Narrowed s p (record { start = p.end; end = p.end }) (subscript (spanned p s))
-  subscript-none e =
-      let o = within.order in
-      let z : p.end - p.end ≡ 0 = omega arith in
-      record {
-        from = o;
-        order = omega arith;
-        to = omega arith;
-        text = ap (λ k. take k (drop p.end s)) z ∙ sym (ap subscript_by (finds-nothing finds e));
-      }
+-- what `subscript_of` answers: where the subscript stands, and nothing where it is empty
+abbrev pub SubscriptFound : List ℕ → Span → Maybe Span → Type 0
+SubscriptFound s p (Some r) = Narrowed s p r (subscript (spanned p s)) × (r.start < r.end)
+SubscriptFound s p None = subscript (spanned p s) ≡ []
 
-  module _ {i : ℕ} (e : q ≡ At i) where
+module _ {s : List ℕ} {p : Span} (within : Within s p) {q : Found} (finds : Finds (spanned p s) q (find (bytes "b:") (spanned p s))) where
+  pub subscript-none : q ≡ None → subscript (spanned p s) ≡ []
+  subscript-none e = ap subscript_by (finds-nothing finds e)
+
+  module _ {i : ℕ} (e : q ≡ Some i) where
     pub subscript-fits : p.start + i + 2 ≤ p.end
     subscript-fits =
         let o = within.order in
@@ -89,3 +87,6 @@ module _ {s : List ℕ} {p : Span} (within : Within s p) {q : Found} (finds : Fi
           to = omega arith;
           text = n.text ∙ ap bottom (a.text ∙ ap trim (sym behind)) ∙ sym (ap subscript_by (finds-at finds e));
         }
+
+pub subscript-empty : {s : List ℕ} {p r : Span} → Narrowed s p r (subscript (spanned p s)) → r.start ≡ r.end → subscript (spanned p s) ≡ []
+subscript-empty {s} {r = r} n e = let z : r.end - r.start ≡ 0 = omega arith in sym n.text ∙ ap (λ k. take k (drop r.start s)) z

@@ -19,10 +19,10 @@ use Rattle.text_symbols.specs.Parts.{part, whole_part, length_part, drop-take}
 use Rattle.text_search.specs.Search.{Closes, closes-at, closes-within, closes-nothing, inside-drop}
 use Rattle.text_symbols.specs.Trim.{Narrowed, spanned}
 use Rattle.text_symbols.specs.declared.Span.{Span}
-use Rattle.text_search.specs.declared.Found.{Found}
-use Rattle.text_search.specs.declared.Found.TheVariants as Found
+use Rattle.std.specs.Prelude.{Option as Maybe, Some, None}
+use Rattle.text_search.specs.Search.{Found}
 use Rattle.attach.specs.declared.Attachment.{Attachment}
-use Rattle.attach.specs.declared.Attachment.TheVariants.{At, Nothing}
+use Rattle.attach.specs.Attach.{SubscriptFound}
 
 -- the text with its call at i, which holds k symbols, rewritten
 abbrev pub underset : List ℕ → ℕ → ℕ → List ℕ → List ℕ → List ℕ
@@ -36,15 +36,15 @@ pub record ArgumentsWithin (start k : ℕ) (base below : Span) : Type 0 where
   pub below-order : below.start < below.end
   pub last : below.end ≤ start + k
 
-abbrev pub AttachmentFits : ℕ → ℕ → Attachment → Type 0
-AttachmentFits start k (At base below) = ArgumentsWithin start k base below
-AttachmentFits start k Nothing = Unit {0}
+abbrev pub AttachmentFits : ℕ → ℕ → Maybe Attachment → Type 0
+AttachmentFits start k (Some a) = ArgumentsWithin start k a.base a.below
+AttachmentFits start k None = Unit {0}
 
-abbrev pub attachment_latex : List ℕ → Attachment → Option (List ℕ)
-attachment_latex s (At base below) = some (latex_underset (spanned below s) (spanned base s))
-attachment_latex s Nothing = none
+abbrev pub attachment_latex : List ℕ → Maybe Attachment → Option (List ℕ)
+attachment_latex s (Some a) = some (latex_underset (spanned a.below s) (spanned a.base s))
+attachment_latex s None = none
 
-pub record Attached (s : List ℕ) (start k : ℕ) (r : Attachment) : Type 0 where
+pub record Attached (s : List ℕ) (start k : ℕ) (r : Maybe Attachment) : Type 0 where
   pub fits : AttachmentFits start k r
   pub latex : attachment_latex s r ≡ latex_attach (part start k s)
 
@@ -86,52 +86,55 @@ module _
     comma : Closes (part start k s) q (find_unescaped_comma (part start k s))
     comma = subst (λ l. Closes l q (find_unescaped_comma l)) (whole_part start k s) answer
 
-    pub comma-fits : {j : ℕ} → q ≡ Found.At j → j < k
+    pub comma-fits : {j : ℕ} → q ≡ Some j → j < k
     comma-fits e = let w = closes-within comma e in let l = length_part start k s within in omega arith
 
-    pub attached-no-comma : q ≡ Found.Nothing → Attached s start k Nothing
+    pub attached-no-comma : q ≡ None → Attached s start k None
     unfolding latex_attach
     attached-no-comma e = record { fits = tt; latex = rw (closes-nothing comma e) }
 
-    module _
-        {j : ℕ} (e : q ≡ Found.At j) {base below : Span}
-        (trims : Narrowed s (record { start = start; end = start + j }) base (trim (part start (start + j - start) s)))
-        (finds : Narrowed s (record { start = start + j + 1; end = start + k }) below (subscript (part (start + j + 1) (start + k - (start + j + 1)) s)))
-      where
-        written : latex_attach (part start k s) ≡ cond (empty (spanned below s)) none (some (latex_underset (spanned below s) (spanned base s)))
-        unfolding latex_attach
-        written =
-            let inner = part start k s in
-            let c = comma-fits e in let w = closes-within comma e in
-            let m : start + j - start ≡ j = omega arith in
-            let n : k - (j + 1) ≡ start + k - (start + j + 1) = omega arith in
-            let o : start + (j + 1) ≡ start + j + 1 = omega arith in
-            let front : inside inner (drop (j + 1) inner) ≡ part start (start + j - start) s =
-            inside-drop inner j w ∙ take-take j k (drop start s) (omega arith) ∙ ap (λ x. take x (drop start s)) (sym m) in
-            let back : drop (j + 1) inner ≡ part (start + j + 1) (start + k - (start + j + 1)) s =
-            drop-take (j + 1) k (drop start s) ∙ ap₂ (λ x l. take x l) n (drop-drop (j + 1) start s ∙ ap (λ x. drop x s) o) in
-            ap (λ o. o and_then λ rest. cond (empty (subscript rest)) none (some (latex_underset (subscript rest) (trim (inside inner rest))))) (closes-at comma e)
-            ∙ ap₂ (λ x y. cond (empty y) none (some (latex_underset y x))) (ap trim front ∙ sym trims.text) (ap subscript back ∙ sym finds.text)
+    module _ {j : ℕ} (e : q ≡ Some j) where
+      -- what stands before the comma, and the span behind it
+      abbrev before : List ℕ
+      before = part start (start + j - start) s
 
-        pub attached-empty : below.start ≡ below.end → Attached s start k Nothing
-        attached-empty z =
-            let n : below.end - below.start ≡ 0 = omega arith in
-            record {
-              fits = tt;
-              latex = sym (written ∙ ap (λ m. cond (empty (take m (drop below.start s))) none (some (latex_underset (take m (drop below.start s)) (spanned base s)))) n);
-            }
+      abbrev behind : Span
+      behind = record { start = start + j + 1; end = start + k }
 
-        pub attached-at : (below.start ≡ below.end → ⊥) → Attached s start k (At base below)
-        attached-at other =
-            let c = comma-fits e in
-            let bf = trims.from in let bo = trims.order in let bt = trims.to in
-            let lf = finds.from in let lo = finds.order in let lt = finds.to in
-            let long : length (spanned below s) ≡ below.end - below.start = length_part below.start (below.end - below.start) s (omega arith) in
-            record {
-              fits = record { first = omega arith; base-order = bo; between = omega arith; below-order = omega arith; last = omega arith };
-              latex = sym (written ∙ some_below (spanned base s) (spanned below s) (omega arith));
-            }
-          where
-            some_below : (base below : List ℕ) → 0 < length below → cond (empty below) none (some (latex_underset below base)) ≡ some (latex_underset below base)
-            some_below base [] h = absurd (omega arith)
-            some_below base (x ∷ below) h = refl
+      abbrev latex_by : List ℕ → List ℕ → Option (List ℕ)
+      latex_by below base = cond (empty below) none (some (latex_underset below base))
+
+      written : latex_attach (part start k s) ≡ latex_by (subscript (spanned behind s)) (trim before)
+      unfolding latex_attach
+      written =
+          let inner = part start k s in
+          let c = comma-fits e in let w = closes-within comma e in
+          let m : start + j - start ≡ j = omega arith in
+          let n : k - (j + 1) ≡ start + k - (start + j + 1) = omega arith in
+          let o : start + (j + 1) ≡ start + j + 1 = omega arith in
+          let front : inside inner (drop (j + 1) inner) ≡ before =
+          inside-drop inner j w ∙ take-take j k (drop start s) (omega arith) ∙ ap (λ x. take x (drop start s)) (sym m) in
+          let back : drop (j + 1) inner ≡ spanned behind s =
+          drop-take (j + 1) k (drop start s) ∙ ap₂ (λ x l. take x l) n (drop-drop (j + 1) start s ∙ ap (λ x. drop x s) o) in
+          ap (λ o. o and_then λ rest. latex_by (subscript rest) (trim (inside inner rest))) (closes-at comma e)
+          ∙ ap₂ (λ x y. latex_by y x) (ap trim front) (ap subscript back)
+
+      pub attached-empty : subscript (spanned behind s) ≡ [] → Attached s start k None
+      attached-empty z = record { fits = tt; latex = sym (written ∙ ap (λ below. latex_by below (trim before)) z) }
+
+      pub attached-at :
+          {base below : Span} → Narrowed s (record { start = start; end = start + j }) base (trim before) → SubscriptFound s behind (Some below)
+          → Attached s start k (Some (record { base = base; below = below }))
+      attached-at {base} {below} trims finds =
+          let c = comma-fits e in
+          let bf = trims.from in let bo = trims.order in let bt = trims.to in
+          let lf = finds.0.from in let lt = finds.0.to in
+          let long : length (spanned below s) ≡ below.end - below.start = length_part below.start (below.end - below.start) s (omega arith) in
+          record {
+            fits = record { first = omega arith; base-order = bo; between = omega arith; below-order = finds.1; last = omega arith };
+            latex = sym (written ∙ ap₂ latex_by (sym finds.0.text) (sym trims.text) ∙ some_below (spanned base s) (spanned below s) (omega arith));
+          }
+        where
+          some_below : (base below : List ℕ) → 0 < length below → latex_by below base ≡ some (latex_underset below base)
+          some_below base [] h = absurd (omega arith)
+          some_below base (x ∷ below) h = refl

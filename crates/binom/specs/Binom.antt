@@ -1,22 +1,27 @@
 -- Binomials: what is written for one, and the turns of the loop that rewrites. Assumes nothing.
 --     parted     what is written for what stands inside, which a comma parts
+--     BinomAt    the answer of `binom_at`: the length of what stands inside, and the place of its comma
 use Rattle.std.specs.Prelude.{◌≡◌, false, List, [], ◌∷◌, ◌++◌, ℕ, suc, ◌+◌, ◌-◌, ◌≤◌, ◌<◌, length, get_or, take, drop}
-use Rattle.std.proofs.Common.{sym, ap, ap₂, ◌∙◌, subst, arith, length-take, length-append, drop-drop, length-take-le}
-use Rattle.std.proofs.Math.Option.{some}
-use Rattle.spec.specs.Symbols.{bytes, trim, inside}
-use Rattle.spec.specs.Sweep.{taken}
+use Rattle.std.specs.Prelude.{Option as Maybe, Some, None}
+use Rattle.std.proofs.Common.{sym, ap, ap₂, ◌∙◌, subst, arith, length-take, length-drop, length-append, drop-drop, take-take, length-take-le}
+use Rattle.std.proofs.Math.Option.{none, some, get_or as or_else}
+use Rattle.spec.specs.Symbols.{bytes, trim}
+use Rattle.spec.specs.Sweep.{taken, kept}
 use Rattle.spec.specs.Closing.{find_comma_in_args, over_quotes}
-use Rattle.spec.specs.Calls.{call_at, call_length, binom}
-use Rattle.text_symbols.specs.Parts.{part, whole_part, length_part, rest_of, sub_part}
+use Rattle.spec.specs.Calls.{call_at, call_length, binom_at, binom}
+use Rattle.spec.specs.Laws.Closing.{length_seen}
+use Rattle.text_symbols.specs.Parts.{part, whole_part, length_part, rest_part}
 use Rattle.text_symbols.specs.Trim.{Narrowed, spanned}
 use Rattle.text_symbols.specs.declared.Span.{Span}
-use Rattle.text_search.specs.Search.{Closes, closes-at, closes-within, closes-nothing, inside-alike}
-use Rattle.spec.specs.Laws.Closing.{length_seen}
-use Rattle.text.specs.Writer.{Appended, Apart}
-use Rattle.text.specs.Sweep.{Sweeping, rest_from, symbols-read, symbols-apart, sweeping-more, sweeping-kept}
-use Rattle.text_search.specs.declared.Found.{Found}
-use Rattle.text_search.specs.declared.Found.TheVariants.{At, Nothing}
-use Rattle.call_rewriting.specs.Delimiters.{Called, inner_at, call-read, call_fits}
+use Rattle.text_search.specs.Search.{Found, Closes, closes-at, closes-within, closes-nothing, inside-alike}
+use Rattle.text.specs.declared.writer.Writer.{Writer}
+use Rattle.text.specs.Writer.{Appended}
+use Rattle.text.specs.Sweep.{Sweeping, rest_from, rest_read, symbols-read, sweeping-more, sweeping-kept}
+use Rattle.call_rewriting.specs.Delimiters.{Called, inner_at, spent}
+use Rattle.binom.specs.declared.Inside.{Inside}
+
+abbrev pub name : List ℕ
+name = bytes "binom("
 
 abbrev pub latex_binom : List ℕ → List ℕ → List ℕ
 latex_binom a b = bytes "\\binom{" ++ a ++ bytes "}{" ++ b ++ bytes "}"
@@ -26,99 +31,103 @@ parted inner comma = latex_binom (trim (take comma inner)) (trim (drop (comma + 
 
 -- the arguments, trimmed where they stand
 module _
-    (w : List ℕ) (inside k comma : ℕ) (source : inside + k ≤ length w) (within : comma < k) {a b : Span}
-    (first : Narrowed (part inside (inside + k - inside) w) (record { start = 0; end = comma }) a (trim (part 0 (comma - 0) (part inside (inside + k - inside) w))))
-    (second : Narrowed (part inside (inside + k - inside) w) (record { start = comma + 1; end = k }) b (trim (part (comma + 1) (k - (comma + 1)) (part inside (inside + k - inside) w))))
+    (w : List ℕ) (inside k comma : ℕ) (within : comma < k) {a b : Span}
+    (first : Narrowed w (record { start = inside; end = inside + comma }) a (trim (part inside (inside + comma - inside) w)))
+    (second : Narrowed w (record { start = inside + comma + 1; end = inside + k }) b (trim (part (inside + comma + 1) (inside + k - (inside + comma + 1)) w)))
   where
-    abbrev argument : Span → List ℕ
-    argument p = part (inside + p.start) (p.end - p.start) w
-
-    argument-read : (p : Span) → p.start + (p.end - p.start) ≤ k → argument p ≡ spanned p (part inside (inside + k - inside) w)
-    argument-read p h = sub_part inside k p.start (p.end - p.start) w h ∙ ap (spanned p) (sym (whole_part inside k w))
-
-    pub arguments-parted : latex_binom (argument a) (argument b) ≡ parted (part inside k w) comma
+    pub arguments-parted : latex_binom (spanned a w) (spanned b w) ≡ parted (part inside k w) comma
     arguments-parted =
-        let inner = part inside k w in
-        let fo = first.order in let ft = first.to in let so = second.order in let st = second.to in
-        let n : comma - 0 ≡ comma = omega arith in
-        let m : k - (comma + 1) ≡ length inner - (comma + 1) = ap (λ l. l - (comma + 1)) (sym (length_part inside k w source)) in
-        let before : part 0 (comma - 0) (part inside (inside + k - inside) w) ≡ take comma inner = ap₂ take n (whole_part inside k w) in
-        let behind : part (comma + 1) (k - (comma + 1)) (part inside (inside + k - inside) w) ≡ drop (comma + 1) inner =
-        ap₂ (λ l s. part (comma + 1) l s) m (whole_part inside k w) ∙ rest_of (comma + 1) inner in
-        ap₂ latex_binom (argument-read a (omega arith) ∙ first.text ∙ ap trim before) (argument-read b (omega arith) ∙ second.text ∙ ap trim behind)
+        let next : inside + (comma + 1) ≡ inside + comma + 1 = omega arith in
+        let before : part inside (inside + comma - inside) w ≡ take comma (part inside k w) =
+        whole_part inside comma w ∙ sym (take-take comma k (drop inside w) (omega arith)) in
+        let behind : part (inside + comma + 1) (inside + k - (inside + comma + 1)) w ≡ drop (comma + 1) (part inside k w) =
+        ap (λ j. part j (inside + k - j) w) (sym next) ∙ rest_part inside k (comma + 1) w in
+        ap₂ latex_binom (first.text ∙ ap trim before) (second.text ∙ ap trim behind)
 
-    pub arguments-few : length (latex_binom (argument a) (argument b)) ≤ k + 64
+    pub arguments-few : length (latex_binom (spanned a w) (spanned b w)) ≤ k + 64
     arguments-few =
-        let ao = first.order in let at = first.to in let bf = second.from in let bo = second.order in let bt = second.to in
-        let la = length-take (a.end - a.start) (drop (inside + a.start) w) in let lb = length-take (b.end - b.start) (drop (inside + b.start) w) in
+        let la = length-take (a.end - a.start) (drop a.start w) in let lb = length-take (b.end - b.start) (drop b.start w) in
+        let ao = first.order in let at = first.to in let af = first.from in let bf = second.from in let bo = second.order in let bt = second.to in
         simp length-append (omega arith)
 
--- ---- a turn of the loop: `call_at` has looked at the rest of the text
+-- ---- the binomial that a text begins with
+pub record Stands (s : List ℕ) (p : Inside) : Type 0 where
+  pub within : 6 + p.k + 1 ≤ length s
+  pub comma-within : p.comma < p.k
+  pub turn : binom_at s ≡ some (taken (call_length name (part 6 p.k s)) (parted (part 6 p.k s) p.comma))
+
+abbrev pub BinomAt : List ℕ → Maybe Inside → Type 0
+BinomAt s (Some p) = Stands s p
+BinomAt s None = binom_at s ≡ none
+
+module _ (s : List ℕ) {r : Found} (called : Called over_quotes name s r) where
+  pub binom-uncalled : r ≡ None → BinomAt s None
+  binom-uncalled e = rw (sym called.inner ∙ ap (inner_at name s) e)
+
+  module _ {k : ℕ} (e : r ≡ Some k) where
+    inner : List ℕ
+    inner = part 6 k s
+
+    pub call-fits : 6 + k + 1 ≤ length s
+    call-fits = let w = called.within in let l = ap (spent name) e in omega arith
+
+    call-here : call_at over_quotes name s ≡ some (part 6 k s)
+    call-here = sym called.inner ∙ ap (inner_at name s) e
+
+    inner-long : length (part 6 k s) ≡ k
+    inner-long = let f = call-fits in length_part 6 k s (omega arith)
+
+    -- where a comma parts the arguments, as the search sees them
+    abbrev Parts : List ℕ → Found → Type 0
+    Parts t q = Closes (over_quotes t) q (find_comma_in_args (over_quotes t))
+
+    module _ {q : Found} (answer : Parts (part 6 (6 + k - 6) s) q) where
+      comma : Parts (part 6 k s) q
+      comma = subst (λ t. Parts t q) (whole_part 6 k s) answer
+
+      pub binom-unparted : q ≡ None → BinomAt s None
+      binom-unparted f = rw (call-here, closes-nothing comma f)
+
+      pub binom-stands : {j : ℕ} → q ≡ Some j → BinomAt s (Some (record { k = k; comma = j }))
+      binom-stands {j} f =
+          let seen = length_seen false (part 6 k s) in
+          let l = closes-within comma f in let m = inner-long in
+          let first : length (take j (part 6 k s)) ≡ j = length-take-le j (part 6 k s) (omega arith) in
+          let second : suc (length (take j (part 6 k s))) ≡ j + 1 = omega arith in
+          record {
+            within = call-fits;
+            comma-within = omega arith;
+            turn = rw (call-here, closes-at comma f, inside-alike (part 6 k s) (over_quotes (part 6 k s)) seen j (omega arith), second);
+          }
+
+-- ---- a turn of the loop: `binom_at` has looked at the rest of the text
 module _
-    {w₀ w : List ℕ} {from n to cap count₀ count i : ℕ} (sweeping : Sweeping binom w₀ w from n to cap count₀ count i)
-    (more : i < n) {r : Found} (called : Called over_quotes (bytes "binom(") (rest_from from n i w) r)
+    {w₀ w : List ℕ} {from n : ℕ} {o₀ o : Writer} {i : ℕ} (sweeping : Sweeping binom w₀ w from n o₀ o i)
+    (more : i < n) {r : Maybe Inside} (met : BinomAt (rest_from from n i w) r)
   where
-    abbrev here : List ℕ
-    here = drop i (part from n w₀)
+    pub binom-copied : {w' : List ℕ} {o' : Writer} → r ≡ None → Appended w w' o o' (get_or w (from + i) 0 ∷ []) → Sweeping binom w₀ w' from n o₀ o' (i + 1)
+    binom-copied e a = sweeping-kept sweeping more (ap (λ t. or_else t (kept (drop i (part from n w₀)))) (subst (BinomAt (drop i (part from n w₀))) e (subst (λ s. BinomAt s r) (rest_read sweeping) met))) a
 
-    pub copied-uncalled : {w' : List ℕ} {count' : ℕ} → r ≡ Nothing → Appended w w' to cap count count' (get_or w (from + i) 0 ∷ []) → Sweeping binom w₀ w' from n to cap count₀ count' (i + 1)
-    copied-uncalled e a = sweeping-kept sweeping more (rw (call-read sweeping more called ∙ ap (inner_at (bytes "binom(") here) e)) a
+    module _ {p : Inside} (e : r ≡ Some p) where
+      stands : Stands (drop i (part from n w₀)) p
+      stands = subst (BinomAt (drop i (part from n w₀))) e (subst (λ s. BinomAt s r) (rest_read sweeping) met)
 
-    module _ {k : ℕ} (e : r ≡ At k) where
-      abbrev inner : List ℕ
-      inner = part (from + i + 6) k w
+      pub binom-fits : i + 6 + p.k + 1 ≤ n
+      binom-fits =
+          let f = stands.within in let l = length_part from n w₀ sweeping.regions.source in let d = length-drop i (part from n w₀) in
+          omega arith
 
-      fits : i + 6 + k + 1 ≤ n
-      fits = call_fits sweeping more called e
+      inner-read : part (from + i + 6) p.k w ≡ part 6 p.k (drop i (part from n w₀))
+      inner-read =
+          let f = binom-fits in let m : from + (i + 6) ≡ from + i + 6 = omega arith in
+          ap (λ j. part j p.k w) (sym m) ∙ symbols-read sweeping (i + 6) p.k (omega arith) ∙ ap (take p.k) (sym (drop-drop 6 i (part from n w₀)))
 
-      inner-long : length inner ≡ k
-      inner-long = let f = fits in let s = sweeping.regions.source in let l = sweeping.long in length_part (from + i + 6) k w (omega arith)
-
-      call-here : call_at over_quotes (bytes "binom(") here ≡ some inner
-      call-here =
-          let f = fits in let m : from + (i + 6) ≡ from + i + 6 = omega arith in
-          call-read sweeping more called ∙ ap (inner_at (bytes "binom(") here) e
-          ∙ ap (λ s. some (take k s)) (drop-drop 6 i (part from n w₀))
-          ∙ ap some (sym (symbols-read sweeping (i + 6) k (omega arith)) ∙ ap (λ j. part j k w) m)
-
-      -- where a comma parts the arguments, as the search sees them
-      abbrev Parts : List ℕ → Found → Type 0
-      Parts s q = Closes (over_quotes s) q (find_comma_in_args (over_quotes s))
-
-      module _ {q : Found} (answer : Parts (part (from + i + 6) (from + i + 6 + k - (from + i + 6)) w) q) where
-        comma : Parts inner q
-        comma = subst (λ s. Parts s q) (whole_part (from + i + 6) k w) answer
-
-        seen-long : length (over_quotes inner) ≡ length inner
-        seen-long = length_seen false inner
-
-        pub copied-unparted : {w' : List ℕ} {count' : ℕ} → q ≡ Nothing → Appended w w' to cap count count' (get_or w (from + i) 0 ∷ []) → Sweeping binom w₀ w' from n to cap count₀ count' (i + 1)
-        copied-unparted f a = sweeping-kept sweeping more (rw (call-here, closes-nothing comma f)) a
-
-        module _ {j : ℕ} (f : q ≡ At j) where
-          pub comma-within : j < k
-          comma-within = let l = closes-within comma f in let m = inner-long in let v = seen-long in omega arith
-
-          turn : binom (get_or (0 ∷ part from n w₀) i 0) here ≡ taken (call_length (bytes "binom(") inner) (parted inner j)
-          turn =
-              let h = comma-within in let l = inner-long in
-              let first : length (take j inner) ≡ j = length-take-le j inner (omega arith) in
-              let second : suc (length (take j inner)) ≡ j + 1 = omega arith in
-              rw (call-here, closes-at comma f, inside-alike inner (over_quotes inner) seen-long j (omega arith), second)
-
-          pub binom-written :
-              {w' : List ℕ} {count' : ℕ} → Appended w w' to cap count count' (parted inner j) → count' ≤ count + (k + 64)
-              → Sweeping binom w₀ w' from n to cap count₀ count' (i + (6 + k + 1))
-          binom-written {w'} {count'} a few =
-              let l = inner-long in let c = a.counted in
-              let next : i + 1 + (6 + length inner) ≡ i + (6 + k + 1) = omega arith in
-              subst (λ j. Sweeping binom w₀ w' from n to cap count₀ count' j) next
-              (sweeping-more sweeping more (taken (call_length (bytes "binom(") inner) (parted inner j)) turn a (omega arith))
-
--- what stands inside the call lies apart from the region that is written
-pub inside-apart :
-    {w₀ w : List ℕ} {from n to cap count₀ count i : ℕ} → Sweeping binom w₀ w from n to cap count₀ count i
-    → (k : ℕ) → i + 6 + k ≤ n → Apart (from + i + 6) k to cap
-inside-apart {from = from} {to = to} {cap} {i = i} sweeping k h =
-    let m : from + (i + 6) ≡ from + i + 6 = omega arith in
-    subst (λ j. Apart j k to cap) m (symbols-apart sweeping (i + 6) k h)
+      pub binom-written :
+          {w' : List ℕ} {o' : Writer} → Appended w w' o o' (parted (part (from + i + 6) p.k w) p.comma) → o'.count ≤ o.count + (p.k + 64)
+          → Sweeping binom w₀ w' from n o₀ o' (i + (6 + p.k + 1))
+      binom-written {w'} {o'} a few =
+          let c = a.counted in let f = stands.within in let l = length_part 6 p.k (drop i (part from n w₀)) (omega arith) in
+          let same = ap (λ s. length (parted s p.comma)) inner-read in
+          let next : i + 1 + (6 + length (part 6 p.k (drop i (part from n w₀)))) ≡ i + (6 + p.k + 1) = omega arith in
+          subst (λ j. Sweeping binom w₀ w' from n o₀ o' j) next
+          (sweeping-more sweeping more (taken (call_length name (part 6 p.k (drop i (part from n w₀)))) (parted (part 6 p.k (drop i (part from n w₀))) p.comma)) (ap (λ t. or_else t (kept (drop i (part from n w₀)))) stands.turn) (rw inner-read at a) (omega arith))

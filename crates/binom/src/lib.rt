@@ -1,111 +1,103 @@
 // The stage `binom`: `binom(n, k)` becomes `\binom{n}{k}`. With no comma at its top level a call is copied as ordinary text.
 #![tactic(auto)]
 
-ghost use Rattle.std.specs.Prelude.{◌+◌, ◌≤◌, ◌<◌, length};
+ghost use Rattle.std.specs.Prelude.{◌+◌, ◌-◌, ◌≤◌, ◌<◌, length};
 ghost use Rattle.spec.specs.Result.{stage, most_symbols};
 ghost use Rattle.spec.specs.Calls.{convert_binom};
 ghost use Rattle.text_symbols.specs.Parts.{part};
 ghost use Rattle.text.specs.Writer.{Room, Appended, Apart, Regions};
 ghost use Rattle.text.specs.Stage.{Ready, Staged};
-ghost use Rattle.binom.specs.Binom.{latex_binom, parted};
+ghost use Rattle.text_symbols.specs.Trim.{Within, spanned};
+ghost use Rattle.binom.specs.Binom.{latex_binom, parted, BinomAt};
 
 use call_rewriting::{call_at, put_call};
-use text::{Due, Progress};
-use text_search::Found;
+use text::{Due, Progress, TextPlace, Writer};
 use text_symbols::{Class, Span};
 
-// The length of `binom(`.
-const OPEN: usize = 6;
+// What a binomial begins with.
+const NAME: &[u8] = b"binom(";
 
-// Appends `\binom{`, the `m` symbols at `a`, `}{`, the `n` symbols at `b`, and `}`.
-fn put_binom(
-    work: &mut [u8],
-    to: usize,
-    count: usize,
-    a: usize,
-    m: usize,
-    b: usize,
-    n: usize,
-) -> usize
-    requires room { Room work.old to most_symbols count (m + n + 64) }
-    requires m_in_bounds { (a + m ≤ length work.old) × (b + n ≤ length work.old) }
-    requires apart { Apart a m to most_symbols × Apart b n to most_symbols }
-    ensures { Appended work.old work.new to most_symbols count result (latex_binom (part a m work.old) (part b n work.old)) }
-{
-    let first = put_call(work, to, count, b"\\binom{", a, m, b"}{");
-    let second = text::copy(work, b, n, to, text::CAP, first);
-    text::put_all(work, to, text::CAP, second, b"}")
+// What stands inside a binomial: its length, and the place of the comma that parts it.
+#[derive(Clone, Copy)]
+pub struct Inside {
+    pub k: usize,
+    pub comma: usize,
 }
 
-// Appends the binomial of the `k` symbols at `inside`: what stands before the comma, which is the symbol `comma` of them, and what
-// stands behind it, both trimmed.
-fn put_parted(
-    work: &mut [u8],
-    to: usize,
-    count: usize,
-    inside: usize,
-    k: usize,
-    comma: usize,
-) -> usize
-    requires room { Room work.old to most_symbols count (k + 64) }
-    requires k_in_bounds { (inside + k ≤ length work.old) × (comma < k) }
-    requires apart { Apart inside k to most_symbols }
-    ensures { Appended work.old work.new to most_symbols count result (parted (part inside k work.old) comma) × (result ≤ count + (k + 64)) }
+// What stands inside the binomial that the text begins with. One that no comma parts is none.
+fn binom_at(s: &[u8]) -> Option<Inside>
+    requires { length s.now ≤ most_symbols }
+    ensures { BinomAt s.now result }
 {
-    let close = inside + k;
-    let first = text_symbols::trim(
-        &work[inside..close],
-        Span {
-            start: 0,
-            end: comma,
-        },
-        Class::Blank,
-    );
-    let second = text_symbols::trim(
-        &work[inside..close],
-        Span {
-            start: comma + 1,
-            end: k,
-        },
-        Class::Blank,
-    );
-    put_binom(
+    let open = NAME.len();
+    let k = call_at(s, NAME)?;
+    let close = open + k;
+    let comma = call_commas::find_comma_in_args(&s[open..close])?;
+    Some(Inside { k, comma })
+}
+
+// Appends `\binom{`, the first span, `}{`, the second one, and `}`.
+fn put_binom(work: &mut [u8], out: Writer, first: Span, second: Span) -> Writer
+    requires room { Room work.old out (first.end - first.start + (second.end - second.start) + 64) }
+    requires first_within { Within work.old first }
+    requires second_within { Within work.old second }
+    requires apart { Apart first.start (first.end - first.start) out × Apart second.start (second.end - second.start) out }
+    ensures { Appended work.old work.new out result (latex_binom (spanned first work.old) (spanned second work.old)) }
+{
+    let above = put_call(
         work,
-        to,
-        count,
-        inside + first.start,
+        out,
+        b"\\binom{",
+        first.start,
         first.end - first.start,
-        inside + second.start,
-        second.end - second.start,
-    )
+        b"}{",
+    );
+    let below = above.copy(work, second.start, second.end - second.start);
+    below.put_all(work, b"}")
 }
 
-// Writes the `n` symbols at `from` to `to`, each binomial rewritten. The result is the finished text's length.
-fn rewrite_binoms(work: &mut [u8], from: usize, n: usize, to: usize) -> usize
-    requires { Regions work.old from n to most_symbols 0 × (n ≤ most_symbols) }
-    ensures { Appended work.old work.new to most_symbols 0 result (convert_binom (part from n work.old)) }
+// Appends the binomial of the symbols at `inside`: what stands before the comma and what stands behind it, both trimmed.
+fn put_parted(work: &mut [u8], out: Writer, inside: usize, parts: Inside) -> Writer
+    requires room { Room work.old out (parts.k + 64) }
+    requires k_in_bounds { (inside + parts.k ≤ length work.old) × (parts.comma < parts.k) }
+    requires apart { Apart inside parts.k out }
+    ensures { Appended work.old work.new out result (parted (part inside parts.k work.old) parts.comma) × (result.count ≤ out.count + (parts.k + 64)) }
 {
+    let comma = inside + parts.comma;
+    let before = Span {
+        start: inside,
+        end: comma,
+    };
+    let behind = Span {
+        start: comma + 1,
+        end: inside + parts.k,
+    };
+    let first = text_symbols::trim(work, before, Class::Blank);
+    let second = text_symbols::trim(work, behind, Class::Blank);
+    put_binom(work, out, first, second)
+}
+
+// Writes the text at `source`, each binomial rewritten.
+fn rewrite_binoms(work: &mut [u8], source: TextPlace, out: Writer) -> Writer
+    requires { Regions work.old source.at source.n out × (source.n ≤ most_symbols) }
+    ensures { Appended work.old work.new out result (convert_binom (part source.at source.n work.old)) }
+{
+    let TextPlace { at: from, n } = source;
     let end = from + n;
-    let mut count = 0;
+    let mut out = out;
     let mut i = 0;
+    // The step varies: behind a binomial the loop goes on. A loop of its own: a turn as a closure over the buffer would be no plainer.
     while i < n {
         let at = from + i;
-        let Found::At(k) = call_at(&work[at..end], b"binom(") else {
-            count = text::copy_one(work, at, to, text::CAP, count);
+        let Some(parts) = binom_at(&work[at..end]) else {
+            out = out.copy_one(work, at);
             i += 1;
             continue;
         };
-        let inside = at + OPEN;
-        let close = inside + k;
-        let Found::At(comma) = call_commas::find_comma_in_args(&work[inside..close]) else {
-            count = text::copy_one(work, at, to, text::CAP, count);
-            i += 1;
-            continue;
-        };
-        count = put_parted(work, to, count, inside, k, comma);
-        i += OPEN + k + 1;
+        out = put_parted(work, out, at + NAME.len(), parts);
+        i += NAME.len() + parts.k + 1;
     }
-    count
+    out
 }
 
 // `binom(n, k)` becomes `\binom{n}{k}`, wherever its parenthesis is closed and a comma parts it.
@@ -113,9 +105,8 @@ pub fn convert_binom(work: &mut [u8], text: Progress) -> Progress
     requires { Ready work.old text }
     ensures { Staged work.old work.new text result (stage convert_binom) }
 {
-    let Due::Rewrite(from, n, to, _) = text::due_for(work, text, b"binom(") else {
+    let Some(Due { source, out, .. }) = text::due_for(work, text, NAME) else {
         return text;
     };
-    let count = rewrite_binoms(work, from, n, to);
-    text::finished(to, count)
+    rewrite_binoms(work, source, out).finished()
 }

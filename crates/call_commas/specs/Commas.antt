@@ -14,17 +14,11 @@ use Rattle.spec.specs.Symbols.{is}
 use Rattle.spec.specs.Laws.Booleans.{and_parts}
 use Rattle.spec.specs.Closing.{Side, opens, closes, neither, any_side, comma_behind, find_comma_in_args, unescaped_behind, seen_as}
 use Rattle.text_search.specs.Search.{Closes}
-use Rattle.text_search.specs.declared.Found.{Found}
+use Rattle.std.specs.Prelude.{Option, Some, None}
+use Rattle.text_search.specs.Search.{Found}
 use Rattle.call_quotes.specs.Quotes.{Sees}
 use Rattle.call_commas.specs.declared.Balance.{Balance}
 use Rattle.call_commas.specs.declared.Comma.{Comma}
-use Rattle.call_commas.specs.declared.Comma.TheVariants.{At, Nothing}
-
-abbrev pub opener : ℕ → Bool
-opener x = is "(" x || (is "[" x || is "{" x)
-
-abbrev pub closer : ℕ → Bool
-closer x = is ")" x || (is "]" x || is "}" x)
 
 abbrev pub balanced : Balance → Side → Balance
 balanced b opens = record { opened = b.opened + 1; closed = b.closed }
@@ -87,20 +81,20 @@ unfolding unescaped_behind
 unescaped-end before s i h = ap (unescaped_behind before) (drop_of_length-le s h)
 
 -- ---- the answer
-abbrev pub place_of : Comma → Found
-place_of (At k quotes) = Found.At k
-place_of Nothing = Found.Nothing
+abbrev pub place_of : Option Comma → Found
+place_of (Some comma) = Some comma.at
+place_of None = None
 
 -- what the search sees behind the comma
-abbrev pub SeesBehind : List ℕ → List ℕ → Comma → Type 0
-SeesBehind v s (At k quotes) = Sees v s (k + 1) quotes.quoted
-SeesBehind v s Nothing = Unit {0}
+abbrev pub SeesBehind : List ℕ → List ℕ → Option Comma → Type 0
+SeesBehind v s (Some comma) = Sees v s (comma.at + 1) comma.behind.quoted
+SeesBehind v s None = Unit {0}
 
-pub record CommaMet (v s : List ℕ) (r : Comma) : Type 0 where
+pub record CommaMet (v s : List ℕ) (r : Option Comma) : Type 0 where
   pub closes : Closes v (place_of r) (find_comma_in_args v)
   pub behind : SeesBehind v s r
 
-pub comma-met : {v s : List ℕ} {r : Comma} {f : Found} → CommaMet v s r → place_of r ≡ f → Closes v f (find_comma_in_args v)
+pub comma-met : {v s : List ℕ} {r : Option Comma} {f : Found} → CommaMet v s r → place_of r ≡ f → Closes v f (find_comma_in_args v)
 comma-met {v} met e = subst (λ f. Closes v f (find_comma_in_args v)) e met.closes
 
 -- ---- what is seen

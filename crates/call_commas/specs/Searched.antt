@@ -9,7 +9,7 @@ use Rattle.spec.specs.Laws.Symbols.{drop-step}
 use Rattle.call_quotes.specs.Quotes.{Sees, sees-all, seen_here, sees_more, sees-past}
 use Rattle.call_quotes.specs.declared.Quotes.{Quotes}
 use Rattle.call_commas.specs.declared.Balance.{Balance}
-use Rattle.call_commas.specs.declared.Comma.TheVariants.{At, Nothing}
+use Rattle.std.specs.Prelude.{Some, None}
 use Rattle.call_commas.specs.Commas.{balanced, balanced-more, comma-here, comma-past, comma-end, comma-seen, quote-past, letter-no-quote, letter-past, CommaMet}
 
 pub record Searched (v s : List ℕ) (b : Balance) (quoted : Bool) (i : ℕ) : Type 0 where
@@ -22,7 +22,7 @@ pub searched-none : (quoted : Bool) (s : List ℕ) {b : Balance} → (b.opened �
 searched-none quoted s start = record { within = omega arith; few = omega arith; sees = sees-all quoted s; decides = rw (start.0, start.1) }
 
 module _ {v s : List ℕ} {b : Balance} {quoted : Bool} {i : ℕ} (searched : Searched v s b quoted i) where
-  pub searched-end : length s ≤ i → CommaMet v s Nothing
+  pub searched-end : length s ≤ i → CommaMet v s None
   searched-end h =
       let long = searched.sees.as_long in
       record { closes = record { within = omega arith; left = sym (searched.decides ∙ comma-end b.opened b.closed v i (omega arith)) }; behind = tt }
@@ -54,7 +54,7 @@ module _ {v s : List ℕ} {b : Balance} {quoted : Bool} {i : ℕ} (searched : Se
       comma : (t : Bool) → is "," here && eqb b.opened b.closed ≡ t → is "," (seen_as quoted here) && eqb b.opened b.closed ≡ t
       comma t e = ap (λ c. c && eqb b.opened b.closed) (comma-seen quoted here) ∙ e
 
-      pub searched-here : {quotes : Quotes} → quotes.quoted ≡ quoted → is "," here && eqb b.opened b.closed ≡ true → CommaMet v s (At i quotes)
+      pub searched-here : {quotes : Quotes} → quotes.quoted ≡ quoted → is "," here && eqb b.opened b.closed ≡ true → CommaMet v s (Some (record { at = i; behind = quotes }))
       searched-here same e =
           let long = searched.sees.as_long in
           record {

@@ -9,13 +9,12 @@ use Rattle.spec.specs.Symbols.{is, inside}
 use Rattle.spec.specs.Closing.{Side, opens, closes, neither, any_side, comma_behind, find_comma_in_args, pushed, split_from, split_top_level_commas, seen_from, over_quotes}
 use Rattle.text_symbols.specs.Parts.{part, rest_of}
 use Rattle.text_search.specs.Search.{Closes, closes-at, closes-within, closes-nothing, inside-drop}
-use Rattle.text_search.specs.declared.Found.{Found}
-use Rattle.text_search.specs.declared.Found.TheVariants as Search
+use Rattle.text_search.specs.Search.{Found}
 use Rattle.call_quotes.specs.Quotes.{Sees, sees-later, sees-end}
 use Rattle.call_quotes.specs.declared.Quotes.{Quotes}
 use Rattle.call_commas.specs.Commas.{CommaMet, SeesBehind, place_of, comma-met}
 use Rattle.call_commas.specs.declared.Comma.{Comma}
-use Rattle.call_commas.specs.declared.Comma.TheVariants.{At, Nothing}
+use Rattle.std.specs.Prelude.{Option as Maybe, Some, None}
 
 -- the parts behind a comma at r, and none where the text ends there
 abbrev pub parts_behind : List ℕ → ℕ → List (List ℕ)
@@ -92,7 +91,7 @@ split_parts o c (x ∷ s) = go (any_side x) refl (split_parts (suc o) c s) (spli
 
 -- ---- what the search in the rest of a slice says
 module _ {s : List ℕ} {start : ℕ} {r : Found} (within : start ≤ length s) (found : Closes (drop start s) r (find_comma_in_args (drop start s))) where
-  splits-at : (k : ℕ) → r ≡ Search.At k → Splits s start (start + k)
+  splits-at : (k : ℕ) → r ≡ Some k → Splits s start (start + k)
   splits-at k e =
       let l = closes-within found e in let d = length-drop start s in
       let n : start + k - start ≡ k = omega arith in
@@ -108,7 +107,7 @@ module _ {s : List ℕ} {start : ℕ} {r : Found} (within : start ≤ length s) 
             (ap split_top_level_commas (drop-drop (k + 1) start s ∙ ap (λ i. drop i s) m) ∙ rw (lt-ltb (start + k) (length s) (omega arith)));
       }
 
-  splits-end : r ≡ Search.Nothing → Splits s start (length s)
+  splits-end : r ≡ None → Splits s start (length s)
   splits-end e =
       record {
         later = within;
@@ -121,7 +120,7 @@ module _ {s : List ℕ} {start : ℕ} {r : Found} (within : start ≤ length s) 
 
 -- the same of a text s that is seen over quotes
 module _
-    {s : List ℕ} {start : ℕ} {quoted : Bool} {r : Comma} (within : start ≤ length s) (sees : Sees (over_quotes s) s start quoted)
+    {s : List ℕ} {start : ℕ} {quoted : Bool} {r : Maybe Comma} (within : start ≤ length s) (sees : Sees (over_quotes s) s start quoted)
     (met : CommaMet (seen_from quoted (part start (length s - start) s)) (part start (length s - start) s) r)
   where
     long : length (over_quotes s) ≡ length s
@@ -130,11 +129,11 @@ module _
     met-onward : CommaMet (drop start (over_quotes s)) (drop start s) r
     met-onward = subst (λ v. CommaMet v (drop start s) r) (sym sees.onward) (subst (λ t. CommaMet (seen_from quoted t) t r) (rest_of start s) met)
 
-    pub seen-splits-at : {k : ℕ} {quotes : Quotes} → r ≡ At k quotes → Splits (over_quotes s) start (start + k) × Sees (over_quotes s) s (start + k + 1) quotes.quoted
+    pub seen-splits-at : {k : ℕ} {quotes : Quotes} → r ≡ Some (record { at = k; behind = quotes }) → Splits (over_quotes s) start (start + k) × Sees (over_quotes s) s (start + k + 1) quotes.quoted
     seen-splits-at {k} {quotes} e =
         let behind : Sees (drop start (over_quotes s)) (drop start s) (k + 1) quotes.quoted = subst (SeesBehind (drop start (over_quotes s)) (drop start s)) e met-onward.behind in
         let next : start + (k + 1) ≡ start + k + 1 = omega arith in
         (splits-at (let l = long in omega arith) (comma-met met-onward (ap place_of e)) k refl, subst (λ i. Sees (over_quotes s) s i quotes.quoted) next (sees-later start long behind))
 
-    pub seen-splits-end : r ≡ Nothing → {quoted' : Bool} → Splits (over_quotes s) start (length s) × Sees (over_quotes s) s (length s + 1) quoted'
+    pub seen-splits-end : r ≡ None → {quoted' : Bool} → Splits (over_quotes s) start (length s) × Sees (over_quotes s) s (length s + 1) quoted'
     seen-splits-end e = (subst (Splits (over_quotes s) start) long (splits-end (let l = long in omega arith) (comma-met met-onward (ap place_of e)) refl), sees-end (length s + 1) long (omega arith))

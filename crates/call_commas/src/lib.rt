@@ -7,11 +7,10 @@ ghost use Rattle.spec.specs.Result.{most_symbols};
 ghost use Rattle.spec.specs.Closing.{any_side, find_comma_in_args, find_unescaped_comma, over_quotes, seen_from};
 ghost use Rattle.text_search.specs.Search.{Closes};
 ghost use Rattle.call_quotes.specs.Quotes.{Sees};
-ghost use Rattle.call_commas.specs.Commas.{opener, closer, balanced, CommaMet};
+ghost use Rattle.call_commas.specs.Commas.{balanced, CommaMet};
 ghost use Rattle.call_commas.specs.Split.{Splits};
 
 use call_quotes::Quotes;
-use text_search::Found;
 
 // Brackets of any kind, opened and closed so far.
 #[derive(Clone, Copy)]
@@ -39,89 +38,69 @@ impl Balance {
         ensures { result ≡ balanced self (any_side symbol) }
     {
         let mut next = self;
-        if is_opener(symbol) {
-            next.opened = self.opened + 1;
-        } else if is_closer(symbol) {
-            next.closed = self.closed + 1;
+        match symbol {
+            b'(' | b'[' | b'{' => next.opened += 1,
+            b')' | b']' | b'}' => next.closed += 1,
+            _ => {}
         }
         next
     }
 }
 
-fn is_opener(b: u8) -> bool
-    ensures { result ≡ opener b }
-{
-    (b == b'(') | ((b == b'[') | (b == b'{'))
-}
-
-fn is_closer(b: u8) -> bool
-    ensures { result ≡ closer b }
-{
-    (b == b')') | ((b == b']') | (b == b'}'))
-}
-
 // A comma at the top level: its place, and whether the search stands between quotes behind it.
 #[derive(Clone, Copy)]
-pub enum Comma {
-    At(usize, Quotes),
-    Nothing,
+pub struct Comma {
+    pub at: usize,
+    pub behind: Quotes,
 }
 
 // The first comma at the top level, where the text begins inside or outside quotes. Most symbols are small letters, which nothing
 // counts.
-fn find_comma(s: &[u8], before: Quotes) -> Comma
+fn find_comma(s: &[u8], before: Quotes) -> Option<Comma>
     requires { length s.now ≤ most_symbols }
     ensures { CommaMet (seen_from before.quoted s.now) s.now result }
 {
     let mut balance = Balance::new();
     let mut quotes = before;
-    let mut i = 0;
-    while i < s.len() {
-        let b = s[i];
-        if (b > b']') & (b < b'{') {
-            i += 1;
+    for (i, b) in s.iter().enumerate() {
+        if (*b > b']') & (*b < b'{') {
             continue;
         }
-        if b == b'"' {
+        if *b == b'"' {
             quotes = quotes.step(s, i);
-            i += 1;
             continue;
         }
-        if (b == b',') & (balance.opened == balance.closed) {
-            return Comma::At(i, quotes);
+        if (*b == b',') & (balance.opened == balance.closed) {
+            return Some(Comma {
+                at: i,
+                behind: quotes,
+            });
         }
-        balance = balance.step(quotes.seen(b));
-        i += 1;
+        balance = balance.step(quotes.seen(*b));
     }
-    Comma::Nothing
+    None
 }
 
 // The offset of the first comma that is at the top level.
-pub fn find_comma_in_args(s: &[u8]) -> Found
+pub fn find_comma_in_args(s: &[u8]) -> Option<usize>
     requires { length s.now ≤ most_symbols }
     ensures { Closes (over_quotes s.now) result (find_comma_in_args (over_quotes s.now)) }
 {
-    let Comma::At(k, _) = find_comma(s, Quotes::new()) else {
-        return Found::Nothing;
-    };
-    Found::At(k)
+    find_comma(s, Quotes::new()).map(|comma| comma.at)
 }
 
 // The offset of the first comma with no backslash before it.
-pub fn find_unescaped_comma(s: &[u8]) -> Found
+pub fn find_unescaped_comma(s: &[u8]) -> Option<usize>
     ensures { Closes s.now result (find_unescaped_comma s.now) }
 {
     let mut previous = 0;
-    let mut i = 0;
-    while i < s.len() {
-        let b = s[i];
-        if (b == b',') & (previous != b'\\') {
-            return Found::At(i);
+    for (i, b) in s.iter().enumerate() {
+        if (*b == b',') & (previous != b'\\') {
+            return Some(i);
         }
-        previous = b;
-        i += 1;
+        previous = *b;
     }
-    Found::Nothing
+    None
 }
 
 // A part of a text: its end, and whether the search stands between quotes behind the comma there.
@@ -139,15 +118,14 @@ pub fn split_top_level_commas(s: &[u8], start: usize, quotes: Quotes) -> Part
     ensures splits { Splits (over_quotes s.now) start result.end }
     ensures sees_next { Sees (over_quotes s.now) s.now (result.end + 1) result.quotes.quoted }
 {
-    let Comma::At(k, behind) = find_comma(&s[start..], quotes) else {
+    let Some(Comma { at, behind }) = find_comma(&s[start..], quotes) else {
         return Part {
             end: s.len(),
             quotes,
         };
     };
-    let end = start + k;
     Part {
-        end,
+        end: start + at,
         quotes: behind,
     }
 }

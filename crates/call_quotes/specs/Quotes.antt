@@ -2,7 +2,8 @@
 --     Sees          the search stands at place i of the text s, which it sees as v, and `quoted` says what it sees from there on
 --     PastQuotes    a closing search that stands outside quotes may go on from place i to place r
 use Rattle.std.proofs.Math.Path.{◌≡◌, refl, sym, ap}
-use Rattle.std.proofs.Common.{ap₂, ◌∙◌, inl, inr, ⊎_elim, length-drop, drop-drop, eqb-true, ltb-true, ne_eqb}
+use Rattle.std.proofs.Common.{ap₂, ◌∙◌, subst, inl, inr, ⊎_elim, length-drop, drop-drop, eqb-true, ltb-true, ne_eqb}
+use Rattle.std.specs.Prelude.{MatchOption, Some, None, is_some as found_any}
 use Rattle.std.specs.Prelude.{Bool, ◌||◌, ◌⊎◌, ℕ, suc, ◌+◌, ◌-◌, ◌≤◌, ◌<◌, eqb, ltb, get_or}
 use Rattle.std.proofs.Math.Bool.{true, false}
 use mathlib.Core.List.{List, [], ◌∷◌}
@@ -10,6 +11,7 @@ use Rattle.std.proofs.Math.Option.{Option, none, some, none-ne-some}
 use Prim.Native.Char.{code}
 use native.Mathlib.Omega.{arith}
 use Rattle.std.proofs.Math.ListN.{length, drop, drop_of_length-le}
+use Rattle.text_search.specs.Search.{Found, Finds, finds-at, finds-within, finds-nothing}
 use Rattle.spec.specs.Laws.Booleans.{or_split}
 use Rattle.spec.specs.Symbols.{bytes, is, is_some, head, past, contains, find}
 use Rattle.spec.specs.Closing.{neither, side, close, quoted_after, seen_as, seen_from}
@@ -49,6 +51,11 @@ module _ {v s : List ℕ} (start : ℕ) {quoted : Bool} (as_long : length v ≡ 
 -- ---- a closing search at a quote
 abbrev pub quote : List ℕ
 quote = bytes "\""
+
+-- whether there is a next one, by a search whose offset is that in a longer text
+pub next-contains : {s : List ℕ} {r : Found} (u : List ℕ) → Finds s r (find quote u) → found_any r ≡ contains quote u
+next-contains {r = Some k} u f = sym (sym (contains-find quote u) ∙ ap is_some (finds-at f refl))
+next-contains {r = None} u f = sym (sym (contains-find quote u) ∙ ap is_some (finds-nothing f refl))
 
 -- neither a parenthesis nor, outside quotes, anything that begins what is passed over
 side-quoted : (x : ℕ) → side (code "(") (code ")") (seen_as true x) ≡ neither
@@ -158,6 +165,13 @@ module _ (s : List ℕ) (i : ℕ) (more : i < length s) (here : is "\"" (get_or 
 
     pub past-both : PastQuotes s i (k + 1)
     past-both = let l = later in record { later = omega arith; within = omega arith; sees = behind; closes = closes-behind }
+
+  -- by what the search for the next quote has found
+  pub past-next :
+      {q : Found} {r : ℕ} (Q : ℕ → Type 0) → Finds s q (find quote (drop (i + 1) s)) → MatchOption q (r ≡ i + 1) Q → ((k : ℕ) → Q k → r ≡ k + 1)
+      → PastQuotes s i r
+  past-next {q = Some k} Q found e told = subst (PastQuotes s i) (sym (told k e)) (past-both (finds-within found refl) (finds-at found refl))
+  past-next {q = None} Q found e told = subst (PastQuotes s i) (sym e) (past_one (finds-nothing found refl))
 
 -- ---- any other symbol
 pub sees-past : {v s : List ℕ} {i : ℕ} {quoted : Bool} → Sees v s i quoted → i < length s → is "\"" (get_or s i 0) ≡ false → Sees v s (i + 1) quoted

@@ -9,21 +9,18 @@ ghost use Rattle.spec.specs.Closing.{find_matching_paren, over_quotes, quoted_af
 ghost use Rattle.call_quotes.specs.Quotes.{PastQuotes};
 
 use text_closing::Tally;
-use text_search::Found;
 
 // The place of the next quote from `start` on. It is near, where there is one, so symbol by symbol is faster than `find`.
-fn next_quote(s: &[u8], start: usize) -> Found
+fn next_quote(s: &[u8], start: usize) -> Option<usize>
     requires { start ≤ length s.now }
     ensures { Finds s.now result (find (bytes "\"") (drop start s.now)) }
 {
-    let mut k = start;
-    while k < s.len() {
+    for k in start..s.len() {
         if s[k] == b'"' {
-            return Found::At(k);
+            return Some(k);
         }
-        k += 1;
     }
-    Found::Nothing
+    None
 }
 
 // Whether a search stands between a quote and the next one.
@@ -58,13 +55,9 @@ impl Quotes {
         if s[i] != b'"' {
             return self;
         }
-        if self.quoted {
-            return Quotes::new();
+        Quotes {
+            quoted: !self.quoted && next_quote(s, i + 1).is_some(),
         }
-        let Found::At(_) = next_quote(s, i + 1) else {
-            return Quotes::new();
-        };
-        Quotes { quoted: true }
     }
 }
 
@@ -74,20 +67,18 @@ fn past_quotes(s: &[u8], i: usize) -> usize
     ensures { PastQuotes s.now i result }
 {
     let next = i + 1;
-    let Found::At(k) = next_quote(s, next) else {
-        return next;
-    };
-    k + 1
+    next_quote(s, next).map_or(next, |k| k + 1)
 }
 
 // The offset of the `)` that closes a call whose `(` has been passed. Most symbols are neither quotes nor parentheses, which one test of
 // their range tells.
-pub fn find_call_end(s: &[u8]) -> Found
+pub fn find_call_end(s: &[u8]) -> Option<usize>
     requires { length s.now ≤ half_work }
     ensures { Closes (over_quotes s.now) result (find_matching_paren (over_quotes s.now)) }
 {
     let mut tally = Tally::new(b'(', b')');
     let mut i = 0;
+    // The step varies: behind a quote the search goes on past the next one. So it is a loop of its own beside `text_closing::find_closer`.
     while i < s.len() {
         let b = s[i];
         if (b < b'"') | (b > b')') {
@@ -99,13 +90,13 @@ pub fn find_call_end(s: &[u8]) -> Found
             continue;
         }
         if tally.depth == Tally::GREATEST {
-            return Found::Nothing;
+            return None;
         }
         tally = tally.step(b);
         if tally.depth == 0 {
-            return Found::At(i);
+            return Some(i);
         }
         i += 1;
     }
-    Found::Nothing
+    None
 }

@@ -13,115 +13,102 @@ ghost use Rattle.text.specs.Writer.{Room, Appended, Apart, Regions};
 ghost use Rattle.text.specs.Stage.{Ready, Staged};
 ghost use Rattle.call_rewriting.specs.Delimiters.{Called, CallTextsFit, argument, delimited};
 
-use text::{Due, Progress};
-use text_search::Found;
+use text::{Due, Progress, TextPlace, Writer};
 use text_symbols::{Class, Span};
 
+// A call that is rewritten: its name, what is written before and behind the symbols inside, and whether blanks and then quotes are
+// dropped from them.
+#[derive(Clone, Copy)]
+pub struct Delimiters<'a> {
+    pub name: &'a [u8],
+    pub left: &'a [u8],
+    pub right: &'a [u8],
+    pub trims: bool,
+}
+
 // The length of what stands inside the call that the text begins with.
-pub fn call_at(s: &[u8], name: &[u8]) -> Found
+pub fn call_at(s: &[u8], name: &[u8]) -> Option<usize>
     requires { length s.now ≤ half_work }
     ensures { Called over_quotes name.now s.now result }
 {
-    if text_search::starts_with(s, name) {
-        let open = name.len();
-        return call_quotes::find_call_end(&s[open..]);
-    }
-    Found::Nothing
+    let rest = s.strip_prefix(name)?;
+    call_quotes::find_call_end(rest)
 }
 
-// What is written of the span inside a call: all of it, or what is left when blanks and then quotes have been trimmed away.
+// What is written of the span inside a call: all of it, or what is left when blanks and then quotes have been trimmed away. A flag is
+// plainer here than a step passed in: all calls that trim do so alike.
 fn argument_of(s: &[u8], span: Span, trims: bool) -> Span
     requires { Within s.now span }
     ensures { Narrowed s.now span result (argument trims (spanned span s.now)) }
 {
-    if trims {
-        return text_symbols::trim(
-            s,
-            text_symbols::trim(s, span, Class::Blank),
-            Class::Only(b'"'),
-        );
+    if !trims {
+        return span;
     }
-    span
+    let inner = text_symbols::trim(s, span, Class::Blank);
+    text_symbols::trim(s, inner, Class::Only(b'"'))
 }
 
 // Appends `left`, the `k` symbols at `inside`, and `right`.
 pub fn put_call(
     work: &mut [u8],
-    to: usize,
-    count: usize,
+    out: Writer,
     left: &[u8],
     inside: usize,
     k: usize,
     right: &[u8],
-) -> usize
-    requires room { Room work.old to most_symbols count (length left.now + (k + length right.now)) }
+) -> Writer
+    requires room { Room work.old out (length left.now + (k + length right.now)) }
     requires k_in_bounds { inside + k ≤ length work.old }
-    requires apart { Apart inside k to most_symbols }
-    ensures { Appended work.old work.new to most_symbols count result (left.now ++ part inside k work.old ++ right.now) }
+    requires apart { Apart inside k out }
+    ensures { Appended work.old work.new out result (left.now ++ part inside k work.old ++ right.now) }
 {
-    let opened = text::put_all(work, to, text::CAP, count, left);
-    let filled = text::copy(work, inside, k, to, text::CAP, opened);
-    text::put_all(work, to, text::CAP, filled, right)
+    let opened = out.put_all(work, left);
+    let filled = opened.copy(work, inside, k);
+    filled.put_all(work, right)
 }
 
-// Writes the `n` symbols at `from` to `to`, each call of the name rewritten. The result is the finished text's length.
-fn rewrite_calls(
-    work: &mut [u8],
-    from: usize,
-    n: usize,
-    to: usize,
-    name: &[u8],
-    left: &[u8],
-    right: &[u8],
-    trims: bool,
-) -> usize
-    requires regions { Regions work.old from n to most_symbols 0 }
-    requires call_texts_fit { CallTextsFit name.now left.now right.now }
-    ensures { Appended work.old work.new to most_symbols 0 result (convert_calls name.now (delimited trims left.now right.now) (part from n work.old)) }
+// Writes the text at `source`, each call of the name rewritten.
+fn rewrite_calls(work: &mut [u8], source: TextPlace, out: Writer, call: &Delimiters<'_>) -> Writer
+    requires regions { Regions work.old source.at source.n out }
+    requires call_texts_fit { CallTextsFit call.now.name.now call.now.left.now call.now.right.now }
+    ensures { Appended work.old work.new out result (convert_calls call.now.name.now (delimited call.now.trims call.now.left.now call.now.right.now) (part source.at source.n work.old)) }
 {
+    let TextPlace { at: from, n } = source;
     let end = from + n;
-    let mut count = 0;
+    let mut out = out;
     let mut i = 0;
+    // The step varies: behind a call the loop goes on. A loop of its own: a turn as a closure over the buffer would be no plainer.
     while i < n {
         let at = from + i;
-        let Found::At(k) = call_at(&work[at..end], name) else {
-            count = text::copy_one(work, at, to, text::CAP, count);
+        let Some(k) = call_at(&work[at..end], call.name) else {
+            out = out.copy_one(work, at);
             i += 1;
             continue;
         };
-        let start = i + name.len();
+        let start = i + call.name.len();
         let close = start + k;
-        let inner = argument_of(&work[from..end], Span { start, end: close }, trims);
-        count = put_call(
+        let inner = argument_of(&work[from..end], Span { start, end: close }, call.trims);
+        out = put_call(
             work,
-            to,
-            count,
-            left,
+            out,
+            call.left,
             from + inner.start,
             inner.end - inner.start,
-            right,
+            call.right,
         );
         i = close + 1;
     }
-    count
+    out
 }
 
 // The stage that rewrites every call of the name. Where there is none, the text stays where it is.
-pub fn convert_delimiter_func(
-    work: &mut [u8],
-    text: Progress,
-    name: &[u8],
-    left: &[u8],
-    right: &[u8],
-    trims: bool,
-) -> Progress
+pub fn convert_delimiter_func(work: &mut [u8], text: Progress, call: &Delimiters<'_>) -> Progress
     requires ready { Ready work.old text }
-    requires call_texts_fit { CallTextsFit name.now left.now right.now }
-    ensures { Staged work.old work.new text result (stage (convert_calls name.now (delimited trims left.now right.now))) }
+    requires call_texts_fit { CallTextsFit call.now.name.now call.now.left.now call.now.right.now }
+    ensures { Staged work.old work.new text result (stage (convert_calls call.now.name.now (delimited call.now.trims call.now.left.now call.now.right.now))) }
 {
-    let Due::Rewrite(from, n, to, _) = text::due_for(work, text, name) else {
+    let Some(Due { source, out, .. }) = text::due_for(work, text, call.name) else {
         return text;
     };
-    let count = rewrite_calls(work, from, n, to, name, left, right, trims);
-    text::finished(to, count)
+    rewrite_calls(work, source, out, call).finished()
 }

@@ -1,8 +1,7 @@
 -- The lengths of a case's parts. Assumes nothing.
-use Rattle.std.specs.Prelude.{ℕ, ◌≤◌}
-use Rattle.case_input.specs.declared.Next.{Next}
-use Rattle.case_input.specs.declared.Next.TheVariants.{Case, Nothing}
+use Rattle.std.specs.Prelude.{ℕ, ◌≤◌, Option, Some, None}
+use Rattle.case_input.specs.declared.Case.{Case}
 
-abbrev pub Limited : ℕ → ℕ → Next → Type 0
-Limited most other (Case n m) = (n ≤ most) × (m ≤ other)
-Limited most other Nothing = Unit {0}
+abbrev pub Limited : ℕ → ℕ → Option Case → Type 0
+Limited most other (Some case) = (case.first ≤ most) × (case.second ≤ other)
+Limited most other None = Unit {0}

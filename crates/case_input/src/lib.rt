@@ -8,32 +8,26 @@ ghost use Rattle.case_input.specs.Lengths.{Limited};
 use std::io;
 use std::io::Read;
 
-// What comes next: a case, by the lengths of its parts, or none that has room.
+// A case, by the lengths of its two parts.
 #[derive(Clone, Copy)]
-pub enum Next {
-    Case(usize, usize),
-    Nothing,
+pub struct Case {
+    pub first: usize,
+    pub second: usize,
 }
 
-// Reads the lengths of the next case, whose parts have at most so many bytes.
-pub fn next_case<R: Read>(reader: &mut R, most: usize, other: usize) -> io::Result<Next>
+// Reads the lengths of the next case, whose parts have at most so many bytes: none where the input ends, or a part is longer.
+pub fn next_case<R: Read>(reader: &mut R, most: usize, other: usize) -> io::Result<Option<Case>>
     ensures { IfOk result (Limited most other) }
 {
     let mut lengths = [0u8; 4];
     if filling::read_full(reader, &mut lengths)? < 4 {
-        return Ok(Next::Nothing);
+        return Ok(None);
     }
-    let n = number(lengths[0], lengths[1]);
-    let m = number(lengths[2], lengths[3]);
-    if most < n {
-        return Ok(Next::Nothing);
+    let [a, b, c, d] = lengths;
+    let first = usize::from(u16::from_be_bytes([a, b]));
+    let second = usize::from(u16::from_be_bytes([c, d]));
+    if most < first || other < second {
+        return Ok(None);
     }
-    if other < m {
-        return Ok(Next::Nothing);
-    }
-    Ok(Next::Case(n, m))
-}
-
-fn number(high: u8, low: u8) -> usize {
-    (high as usize) * 256 + (low as usize)
+    Ok(Some(Case { first, second }))
 }

@@ -12,6 +12,7 @@ use Rattle.spec.specs.Calls.{nonblank, joined, call_at, latex_cases, cases_once,
 use Rattle.text_symbols.specs.Parts.{part, whole_part, sub_part, rest_part, length_part}
 use Rattle.text_symbols.specs.Trim.{Narrowed}
 use Rattle.text_search.specs.Search.{until-drop}
+use Rattle.text.specs.declared.writer.Writer.{Writer}
 use Rattle.text.specs.Writer.{Regions, Appended, appended-none, appended-more, appended-part}
 use Rattle.text_symbols.specs.declared.Span.{Span}
 use Rattle.spec.specs.Laws.Closing.{length_seen}
@@ -38,11 +39,11 @@ abbrev pub parts_from : List ℕ → ℕ → List (List ℕ)
 parts_from s start = cut_alike (parts_alike (over_quotes s) start) (drop start s)
 
 pub record Branched (s : List ℕ) (start : ℕ) (r : Branch) : Type 0 where
-  pub low : start ≤ r.start
-  pub order : r.start ≤ r.end
-  pub high : r.end < r.next
+  pub low : start ≤ r.span.start
+  pub order : r.span.start ≤ r.span.end
+  pub high : r.span.end < r.next
   pub within : r.next ≤ length s + 1
-  pub parts : map trim (parts_from s start) ≡ part r.start (r.end - r.start) s ∷ map trim (parts_from s r.next)
+  pub parts : map trim (parts_from s start) ≡ part r.span.start (r.span.end - r.span.start) s ∷ map trim (parts_from s r.next)
   pub sees : Sees (over_quotes s) s r.next r.quotes.quoted
 
 parts-behind : (s : List ℕ) (r : ℕ) → parts_behind s r ≡ parts_alike s (r + 1)
@@ -68,7 +69,7 @@ pub branched :
     {s : List ℕ} {start comma : ℕ} {p : Span} {quotes : Quotes} → start ≤ length s → Splits (over_quotes s) start comma
     → Sees (over_quotes s) s (comma + 1) quotes.quoted
     → Narrowed s (record { start = start; end = comma }) p (trim (part start (comma - start) s))
-    → Branched s start (record { start = p.start; end = p.end; next = comma + 1; quotes = quotes })
+    → Branched s start (record { span = p; next = comma + 1; quotes = quotes })
 branched {s} {start} {comma} {p} {quotes} h splits sees narrowed =
     let seen = length_seen false s in
     let w = splits.within in let f = narrowed.from in let o = narrowed.order in let t = narrowed.to in
@@ -104,25 +105,25 @@ nonblank-some : (b : List ℕ) (bs : List (List ℕ)) → 0 < length b → nonbl
 nonblank-some [] bs h = absurd (omega arith)
 nonblank-some (x ∷ b) bs h = refl
 
-pub record Branching (s w₀ w : List ℕ) (to cap count₀ count : ℕ) (later : Bool) (start : ℕ) : Type 0 where
+pub record Branching (s w₀ w : List ℕ) (o₀ o : Writer) (later : Bool) (start : ℕ) : Type 0 where
   pub out : List ℕ
-  pub appended : Appended w₀ w to cap count₀ count out
+  pub appended : Appended w₀ w o₀ o out
   pub same-as-whole : out ++ added later (nonblank (map trim (parts_from s start))) ≡ branches s
-  pub bounded : count ≤ count₀ + 8 * start
+  pub bounded : o.count ≤ o₀.count + 8 * start
 
-pub branching-none : (s w : List ℕ) (to cap count : ℕ) → Branching s w w to cap count count false 0
-branching-none s w to cap count =
+pub branching-none : (s w : List ℕ) (o : Writer) → Branching s w w o o false 0
+branching-none s w o =
     record {
       out = [];
-      appended = appended-none w to cap count;
+      appended = appended-none w o;
       same-as-whole =
           ap (λ b. joined (bytes " \\\\ ") (nonblank (map trim (cut_alike (cond b [] (split_top_level_commas (over_quotes s))) s)))) (le-ltb (length (over_quotes s)) 0 (omega arith));
       bounded = omega arith;
     }
 
-pub branching-all : {s w₀ w : List ℕ} {to cap count₀ count : ℕ} {later : Bool} {start : ℕ} → Branching s w₀ w to cap count₀ count later start → length s < start → Appended w₀ w to cap count₀ count (branches s)
-branching-all {s} {w₀} {w} {to} {cap} {count₀} {count} {later} {start} b h =
-    subst (λ out. Appended w₀ w to cap count₀ count out)
+pub branching-all : {s w₀ w : List ℕ} {o₀ o : Writer} {later : Bool} {start : ℕ} → Branching s w₀ w o₀ o later start → length s < start → Appended w₀ w o₀ o (branches s)
+branching-all {s} {w₀} {w} {o₀} {o} {later} {start} b h =
+    subst (λ out. Appended w₀ w o₀ o out)
     (sym (append-nil b.out) ∙ ap (λ l. b.out ++ l) (sym (nothing later ∙ refl)) ∙ b.same-as-whole) b.appended
   where
     none_left : (later : Bool) → added later (nonblank (map trim [])) ≡ []
@@ -136,28 +137,28 @@ branching-all {s} {w₀} {w} {to} {cap} {count₀} {count} {later} {start} b h =
         ∙ none_left later
 
 module _
-    {s w₀ w : List ℕ} {to cap count₀ count : ℕ} {later : Bool} {start : ℕ} (b : Branching s w₀ w to cap count₀ count later start) {r : Branch} (at : Branched s start r)
+    {s w₀ w : List ℕ} {o₀ o : Writer} {later : Bool} {start : ℕ} (b : Branching s w₀ w o₀ o later start) {r : Branch} (at : Branched s start r)
   where
-    pub branching-blank : r.end - r.start ≡ 0 → Branching s w₀ w to cap count₀ count later r.next
+    pub branching-blank : r.span.end - r.span.start ≡ 0 → Branching s w₀ w o₀ o later r.next
     branching-blank e =
-        let n = b.bounded in let l = at.low in let o = at.order in let h = at.high in
+        let n = b.bounded in let l = at.low in let ordered = at.order in let h = at.high in
         record {
           out = b.out;
           appended = b.appended;
           same-as-whole =
               ap (λ bs. b.out ++ added later bs)
-              (sym (ap nonblank at.parts ∙ nonblank-none (part r.start (r.end - r.start) s) (map trim (parts_from s r.next)) (ap (λ k. length (take k (drop r.start s))) e)))
+              (sym (ap nonblank at.parts ∙ nonblank-none (part r.span.start (r.span.end - r.span.start) s) (map trim (parts_from s r.next)) (ap (λ k. length (take k (drop r.span.start s))) e)))
               ∙ b.same-as-whole;
           bounded = omega arith;
         }
 
     pub branching-more :
-        {w' : List ℕ} {count' : ℕ} → 0 < r.end - r.start → Appended w w' to cap count count' (separator later ++ part r.start (r.end - r.start) s)
-        → Branching s w₀ w' to cap count₀ count' true r.next
-    branching-more {w'} {count'} e a =
-        let n = b.bounded in let l = at.low in let o = at.order in let h = at.high in let w = at.within in
-        let branch = part r.start (r.end - r.start) s in
-        let long : length branch ≡ r.end - r.start = length_part r.start (r.end - r.start) s (omega arith) in
+        {w' : List ℕ} {o' : Writer} → 0 < r.span.end - r.span.start → Appended w w' o o' (separator later ++ part r.span.start (r.span.end - r.span.start) s)
+        → Branching s w₀ w' o₀ o' true r.next
+    branching-more {w'} {o'} e a =
+        let n = b.bounded in let l = at.low in let ordered = at.order in let h = at.high in let w = at.within in
+        let branch = part r.span.start (r.span.end - r.span.start) s in
+        let long : length branch ≡ r.span.end - r.span.start = length_part r.span.start (r.span.end - r.span.start) s (omega arith) in
         let bs = nonblank (map trim (parts_from s r.next)) in
         let c = simp length-append at a.counted in
         let few = separator-short later in
@@ -176,12 +177,16 @@ module _
         separator-short true = omega arith
 
 -- what the loop reads: all of the branches, and m symbols of them
-module _ {w₀ w out : List ℕ} {to cap count₀ count from n : ℕ} (a : Appended w₀ w to cap count₀ count out) (regions : Regions w₀ from n to cap count₀) where
+module _ {w₀ w out : List ℕ} {o₀ o : Writer} {from n : ℕ} (a : Appended w₀ w o₀ o out) (regions : Regions w₀ from n o₀) where
   pub branches-read : part from (from + n - from) w ≡ part from n w₀
   branches-read = whole_part from n w ∙ appended-part a from n regions.apart
 
   pub branch_read : (i m : ℕ) → i + m ≤ n → part (from + i) m w ≡ part i m (part from n w₀)
   branch_read i m h = sub_part from n i m w h ∙ ap (λ s. take m (drop i s)) (appended-part a from n regions.apart)
+
+  -- a branch of what is read is one of what is written
+  pub branched-read : {start : ℕ} {r : Branch} → Branched (part from (from + n - from) w) start r → Branched (part from n w₀) start r
+  branched-read {start} {r} = subst (λ s. Branched s start r) branches-read
 
 -- ---- the call in its text
 pub cases-unclosed : (s at : List ℕ) → find (bytes "cases(") s ≡ some at → call_at over_quotes (bytes "cases(") at ≡ none → convert_cases s ≡ s

@@ -7,21 +7,22 @@ ghost use Rattle.spec.specs.Result.{stage, most_symbols};
 ghost use Rattle.spec.specs.Closing.{over_quotes};
 ghost use Rattle.spec.specs.Calls.{latex_cases, convert_cases};
 ghost use Rattle.text_symbols.specs.Parts.{part};
-ghost use Rattle.text.specs.Writer.{Room, Appended, Apart, Regions};
+ghost use Rattle.text.specs.Writer.{Room, Appended, Apart, Regions, grown_by};
 ghost use Rattle.text.specs.Stage.{Ready, Staged};
 ghost use Rattle.call_quotes.specs.Quotes.{Sees};
 ghost use Rattle.cases.specs.Cases.{Branched, separator, branches};
 
 use call_quotes::Quotes;
-use text::{Due, Progress};
-use text_search::Found;
+use text::{Due, Progress, TextPlace, Writer};
 use text_symbols::{Class, Span};
 
-// A branch, trimmed, from `start` to `end`; the place where the next one begins, and whether it begins between quotes.
+// What the call begins with.
+const NAME: &[u8] = b"cases(";
+
+// A branch, trimmed; the place where the next one begins, and whether it begins between quotes.
 #[derive(Clone, Copy)]
 pub struct Branch {
-    pub start: usize,
-    pub end: usize,
+    pub span: Span,
     pub next: usize,
     pub quotes: Quotes,
 }
@@ -34,75 +35,77 @@ fn branch_at(s: &[u8], start: usize, quotes: Quotes) -> Branch
 {
     let part = call_commas::split_top_level_commas(s, start, quotes);
     let end = part.end;
-    let behind = part.quotes;
-    let span = text_symbols::trim(s, Span { start, end }, Class::Blank);
     Branch {
-        start: span.start,
-        end: span.end,
+        span: text_symbols::trim(s, Span { start, end }, Class::Blank),
         next: end + 1,
-        quotes: behind,
+        quotes: part.quotes,
     }
 }
 
-// Appends the `k` symbols at `from`, behind a separator if they are not the first.
-fn put_branch(work: &mut [u8], to: usize, count: usize, later: bool, from: usize, k: usize) -> usize
-    requires room { Room work.old to most_symbols count (k + 4) }
+// Appends the `k` symbols at `from`, behind a separator if they are not the first. A flag is plainer here than a
+// separator passed in, which would be empty for the first branch.
+fn put_branch(work: &mut [u8], out: Writer, later: bool, from: usize, k: usize) -> Writer
+    requires room { Room work.old out (k + 4) }
     requires k_in_bounds { from + k ≤ length work.old }
-    requires apart { Apart from k to most_symbols }
-    ensures { Appended work.old work.new to most_symbols count result (separator later ++ part from k work.old) }
+    requires apart { Apart from k out }
+    ensures { Appended work.old work.new out result (separator later ++ part from k work.old) }
 {
     if later {
-        let parted = text::put_all(work, to, text::CAP, count, b" \\\\ ");
-        return text::copy(work, from, k, to, text::CAP, parted);
+        let parted = out.put_all(work, b" \\\\ ");
+        return parted.copy(work, from, k);
     }
-    text::copy(work, from, k, to, text::CAP, count)
+    out.copy(work, from, k)
 }
 
-// Appends the branches of the `n` symbols at `from`.
-fn put_branches(work: &mut [u8], to: usize, count: usize, from: usize, n: usize) -> usize
-    requires { Regions work.old from n to most_symbols count × (n ≤ most_symbols) }
-    ensures { Appended work.old work.new to most_symbols count result (branches (part from n work.old)) × (result ≤ count + 8 * (n + 1)) }
+// Appends the branches of the text at `source`.
+fn put_branches(work: &mut [u8], out: Writer, source: TextPlace) -> Writer
+    requires { Regions work.old source.at source.n out × (source.n ≤ most_symbols) }
+    ensures { Appended work.old work.new out result (branches (part source.at source.n work.old)) × (result.count ≤ out.count + 8 * (source.n + 1)) }
 {
+    let TextPlace { at: from, n } = source;
     let end = from + n;
-    let mut written = count;
+    let mut written = out;
     let mut later = false;
     let mut quotes = Quotes::new();
     let mut start = 0;
+    // The step varies: the loop goes on behind the branch.
     while start <= n {
         let branch = branch_at(&work[from..end], start, quotes);
-        let k = branch.end - branch.start;
+        let k = branch.span.end - branch.span.start;
         start = branch.next;
         quotes = branch.quotes;
         if k == 0 {
             continue;
         }
-        written = put_branch(work, to, written, later, from + branch.start, k);
+        written = put_branch(work, written, later, from + branch.span.start, k);
         later = true;
     }
     written
 }
 
-// Appends the environment for the `n` symbols at `from`.
-fn put_cases(work: &mut [u8], to: usize, count: usize, from: usize, n: usize) -> usize
-    requires { Regions work.old from n to most_symbols (count + 32) × (n ≤ most_symbols) }
-    ensures { Appended work.old work.new to most_symbols count result (latex_cases (part from n work.old)) × (result ≤ count + 8 * (n + 1) + 32) }
+// Appends the environment for the text at `source`.
+fn put_cases(work: &mut [u8], out: Writer, source: TextPlace) -> Writer
+    requires { Regions work.old source.at source.n (grown_by 32 out) × (source.n ≤ most_symbols) }
+    ensures { Appended work.old work.new out result (latex_cases (part source.at source.n work.old)) × (result.count ≤ out.count + 8 * (source.n + 1) + 32) }
 {
-    let opened = text::put_all(work, to, text::CAP, count, b"\\begin{cases} ");
-    let filled = put_branches(work, to, opened, from, n);
-    text::put_all(work, to, text::CAP, filled, b" \\end{cases}")
+    let opened = out.put_all(work, b"\\begin{cases} ");
+    let filled = put_branches(work, opened, source);
+    filled.put_all(work, b" \\end{cases}")
 }
 
-// Writes the `n` symbols at `from` to `to`, the call at `i`, which holds `k` symbols, rewritten.
-fn rewrite_cases(work: &mut [u8], from: usize, n: usize, to: usize, i: usize, k: usize) -> usize
-    requires regions { Regions work.old from n to most_symbols 0 × (n ≤ most_symbols) }
-    requires k_bound { i + 6 + k + 1 ≤ n }
-    ensures { Appended work.old work.new to most_symbols 0 result (part from i work.old ++ latex_cases (part (from + i + 6) k work.old) ++ part (from + i + 6 + k + 1) (from + n - (from + i + 6 + k + 1)) work.old) }
+// Writes the text at `source`, the call at `i`, which holds `k` symbols, rewritten.
+fn rewrite_cases(work: &mut [u8], source: TextPlace, out: Writer, i: usize, k: usize) -> Writer
+    requires regions { Regions work.old source.at source.n out × (source.n ≤ most_symbols) }
+    requires small { out.count ≤ most_symbols }
+    requires k_bound { i + 6 + k + 1 ≤ source.n }
+    ensures { Appended work.old work.new out result (part source.at i work.old ++ latex_cases (part (source.at + i + 6) k work.old) ++ part (source.at + i + 6 + k + 1) (source.at + source.n - (source.at + i + 6 + k + 1)) work.old) }
 {
-    let inside = from + i + 6;
+    let TextPlace { at: from, n } = source;
+    let inside = from + i + NAME.len();
     let behind = inside + k + 1;
-    let before = text::copy(work, from, i, to, text::CAP, 0);
-    let written = put_cases(work, to, before, inside, k);
-    text::copy(work, behind, from + n - behind, to, text::CAP, written)
+    let before = out.copy(work, from, i);
+    let written = put_cases(work, before, TextPlace { at: inside, n: k });
+    written.copy(work, behind, from + n - behind)
 }
 
 // `cases(a, b)` becomes the environment: the first call only, as the Rust has no loop here.
@@ -110,14 +113,13 @@ pub fn convert_cases(work: &mut [u8], text: Progress) -> Progress
     requires { Ready work.old text }
     ensures { Staged work.old work.new text result (stage convert_cases) }
 {
-    let Due::Rewrite(from, n, to, i) = text::due_for(work, text, b"cases(") else {
+    let Some(Due { source, out, first }) = text::due_for(work, text, NAME) else {
         return text;
     };
-    let at = from + i;
-    let end = from + n;
-    let Found::At(k) = call_rewriting::call_at(&work[at..end], b"cases(") else {
+    let at = source.at + first;
+    let end = source.at + source.n;
+    let Some(k) = call_rewriting::call_at(&work[at..end], NAME) else {
         return text;
     };
-    let count = rewrite_cases(work, from, n, to, i, k);
-    text::finished(to, count)
+    rewrite_cases(work, source, out, first, k).finished()
 }

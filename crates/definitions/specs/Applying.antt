@@ -3,7 +3,7 @@
 --     definitions-held     they are those of the definitions on what is held
 --     DefinitionsLeft      the loop: the definitions from a cursor on are left, and all of them may be applied
 -- Assumes nothing.
-use Rattle.std.specs.Prelude.{◌≡◌, Bool, ◌||◌, ℕ, ◌+◌, ◌-◌, ◌<◌, ltb, length}
+use Rattle.std.specs.Prelude.{◌≡◌, Bool, ◌||◌, ℕ, ◌+◌, ◌<◌, ltb, length, Option as Maybe, Some, None}
 use Rattle.std.proofs.Math.Path.{refl, sym, ap, subst}
 use Rattle.std.proofs.Common.{◌∙◌, arith}
 use Rattle.std.proofs.Math.Bool.{true, false, cond}
@@ -20,9 +20,8 @@ use Rattle.spec.specs.Matches.{defined_match}
 use Rattle.spec.specs.Laws.Order.{rearranged-in-order}
 use Rattle.spec.specs.Laws.Table.{sound-name-some}
 use Rattle.spec.specs.Laws.Matches.{unmatched-rearranged}
-use Rattle.text.specs.Stage.{Ready, shown}
+use Rattle.text.specs.Stage.{Ready, shown, Progress}
 use Rattle.text.specs.Untouched.{Untouched, untouched-alike, EntriesLeft, entries_none, entries-more, entries-all}
-use Rattle.text.specs.declared.Progress.{Progress}
 use Rattle.held_laws.specs.WellMade.{WellMade}
 use Rattle.held_laws.specs.Rewriting.{sweep-made}
 use Rattle.held_laws.specs.Instances.{SoundDefinition, EverySound, defined-between, order-sound, definitions-made}
@@ -31,9 +30,8 @@ use Rattle.name_entry.specs.Bounded.{EntryTextsFit, bounded_match, defined-match
 use Rattle.name_entry.specs.Sized.{sized, FitsWithBlocks, StagedWithin, Remaining, remaining-none, remaining-step}
 use Rattle.table.specs.declared.Record.{Record}
 use Rattle.table.specs.Reading.{Lies, Short, definition_at, length-name, length-latex}
-use Rattle.table_order.specs.declared.Cursor.{Cursor}
-use Rattle.table_order.specs.declared.Cursor.TheVariants.{Start, Behind}
-use Rattle.table_order.specs.Order.{remaining, remaining-start}
+use Rattle.table.specs.Sound.{refused as not_passed, not-refused}
+use Rattle.table_order.specs.Order.{Cursor, Nexts, remaining, remaining-start, next-remaining, listed-distinct}
 use Rattle.held_stages.specs.Outside.{Extra}
 use Rattle.held_stages.specs.Carried.{held-sized}
 
@@ -58,12 +56,11 @@ module _ {table : List ℕ} {r : Record} (usable : Usable table r) where
 
   -- a name of one byte is skipped
   pub one-byte-skipped :
-      {w : List ℕ} {p : Progress} {extra : ℕ} → r.latex - r.name ≡ 1 → Ready w p → FitsWithBlocks extra p
+      {w : List ℕ} {p : Progress} {extra : ℕ} → length (definition_at table r).name ≡ 1 → Ready w p → FitsWithBlocks extra p
       → StagedWithin w w p p extra (sized_definition extra (definition_at table r))
   unfolding sized_definition
   one-byte-skipped {w} {p} {extra} one ready within =
-      let n = length-name usable.lies in
-      let e = eq-eqb (length (definition_at table r).name) 1 (n ∙ one) in
+      let e = eq-eqb (length (definition_at table r).name) 1 one in
       record {
         staged = record {
           answered = record { answer = sym (go e (shown p w)); long = refl; placed = ready.placed };
@@ -78,13 +75,12 @@ module _ {table : List ℕ} {r : Record} (usable : Usable table r) where
       go e (refused k) = refl
 
   pub applied :
-      {w w' : List ℕ} {p p' : Progress} {extra : ℕ} → (r.latex - r.name ≡ 1 → ⊥)
+      {w w' : List ℕ} {p p' : Progress} {extra : ℕ} → (length (definition_at table r).name ≡ 1 → ⊥)
       → StagedWithin w w' p p' extra (sized extra (sweep (defined (definition_at table r)) 0 0)) × Untouched w w' p p' (bounded_match Defined (definition_at table r).name ∷ [])
       → StagedWithin w w' p p' extra (sized_definition extra (definition_at table r)) × Untouched w w' p p' (defined_match (definition_at table r) ∷ [])
   unfolding sized_definition apply_definition
   applied {w} {p = p} {extra = extra} more a =
-      let n = length-name usable.lies in
-      let e = ne_eqb (length (definition_at table r).name) 1 (λ one. more (sym n ∙ one)) in
+      let e = ne_eqb (length (definition_at table r).name) 1 more in
       let staged = a.0.staged in (
         record {
           staged = record {
@@ -103,13 +99,21 @@ module _ {table : List ℕ} {r : Record} (usable : Usable table r) where
       go e (refused k) = refl
 
 -- ---- the loop
+-- the next record, of a table that number 3 lets pass
+module _ {table : List ℕ} {c : Cursor} {x : Maybe Record} (nexts : Nexts table c x) (accepted : not_passed (definitions table) ≡ false) {r : Record} (e : x ≡ Some r) where
+  pub next-step : remaining table c ≡ definition_at table r ∷ remaining table (Some r)
+  next-step = let known = not-refused (definitions table) accepted in next-remaining nexts (listed-distinct table known.0 known.1) e
+
+  pub next-fewer : length (remaining table (Some r)) < length (remaining table c)
+  next-fewer = let fewer = ap length next-step in omega arith
+
 pub record DefinitionsLeft (table : List ℕ) (c : Cursor) (ds : List Definition) (extra : ℕ) (w₀ w : List ℕ) (p₀ p : Progress) : Type 0 where
   pub sound : EverySound (remaining table c)
   pub stages : Remaining w₀ w p₀ p extra (sized_definitions extra (in_order ds)) (sized_definitions extra (remaining table c))
   pub entries : EntriesLeft w₀ w p₀ p (map defined_match (in_order ds)) (map defined_match (remaining table c))
 
-module _ (table : List ℕ) (c : Cursor) (r : Record) (next : remaining table c ≡ definition_at table r ∷ remaining table (Behind r)) where
-  sound-both : EverySound (remaining table c) → SoundDefinition (definition_at table r) × EverySound (remaining table (Behind r))
+module _ (table : List ℕ) (c : Cursor) (r : Record) (next : remaining table c ≡ definition_at table r ∷ remaining table (Some r)) where
+  sound-both : EverySound (remaining table c) → SoundDefinition (definition_at table r) × EverySound (remaining table (Some r))
   unfolding EverySound
   sound-both all = subst EverySound next all
 
@@ -119,12 +123,12 @@ module _ (table : List ℕ) (c : Cursor) (r : Record) (next : remaining table c 
   pub left-more :
       {ds : List Definition} {extra : ℕ} {w₀ w w' : List ℕ} {p₀ p p' : Progress} → DefinitionsLeft table c ds extra w₀ w p₀ p
       → StagedWithin w w' p p' extra (sized_definition extra (definition_at table r)) × Untouched w w' p p' (defined_match (definition_at table r) ∷ [])
-      → DefinitionsLeft table (Behind r) ds extra w₀ w' p₀ p'
+      → DefinitionsLeft table (Some r) ds extra w₀ w' p₀ p'
   unfolding sized_definitions
   left-more {extra = extra} left a =
       record {
         sound = (sound-both left.sound).1;
-        stages = remaining-step left.stages (sized_definitions extra (remaining table (Behind r))) a.0 (λ s. ap (λ l. sized_definitions extra l s) next);
+        stages = remaining-step left.stages (sized_definitions extra (remaining table (Some r))) a.0 (λ s. ap (λ l. sized_definitions extra l s) next);
         entries = entries-more (defined_match (definition_at table r) ∷ []) _ left.entries (ap (map defined_match) next) a.1;
       }
 
@@ -134,7 +138,7 @@ left-done table c extra e s = ap (λ l. sized_definitions extra l s) e
 
 pub left-none :
     (table : List ℕ) (ds : List Definition) (extra : ℕ) {w : List ℕ} {p : Progress} → definitions table ≡ some ds → Ready w p → FitsWithBlocks extra p
-    → DefinitionsLeft table Start ds extra w w p p
+    → DefinitionsLeft table None ds extra w w p p
 left-none table ds extra {w} {p} e ready within =
     let all = sym (remaining-start table ds e) in
     record {

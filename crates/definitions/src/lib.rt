@@ -1,5 +1,6 @@
 // The definitions of the table, applied outside of `\text{..}` blocks. Where none of them matches, every byte stays as it is; a text with
-// blocks that are to be held out is rewritten all the same.
+// blocks that are to be held out is rewritten all the same. `extra` stays the same while the text changes from definition to definition, so
+// it is a parameter of its own.
 #![tactic(auto)]
 
 ghost use Rattle.std.specs.Prelude.{◌≡◌, false, List, [], ◌∷◌, map};
@@ -15,9 +16,8 @@ ghost use Rattle.table.specs.Sound.{refused};
 ghost use Rattle.held_stages.specs.Outside.{UnmarkedProgress};
 ghost use Rattle.definitions.specs.Applying.{Usable, sized_definition, sized_definitions};
 
-use name_entry::Bounds;
-use table::{Reading, Record};
-use table_order::Cursor;
+use name_entry::{Bounds, Entry};
+use table::Record;
 use text::Progress;
 
 // Applies one definition. Names of one byte are skipped.
@@ -34,20 +34,16 @@ fn apply_definition(
     ensures staged_within { StagedWithin work.old work.new text result extra (sized_definition extra (definition_at table.now found)) }
     ensures untouched { Untouched work.old work.new text result (defined_match (definition_at table.now found) ∷ []) }
 {
-    let start = found.name;
-    let middle = found.latex;
-    let end = found.next;
-    if middle - start == 1 {
+    let pattern = found.name_in(table);
+    if pattern.len() == 1 {
         return text;
     }
-    name_entry::apply(
-        work,
-        text,
-        extra,
-        Bounds::Defined,
-        &table[start..middle],
-        &table[middle..end],
-    )
+    let entry = Entry {
+        bounds: Bounds::Defined,
+        pattern,
+        fresh: found.latex_in(table),
+    };
+    name_entry::apply(work, text, extra, &entry)
 }
 
 // Applies all of them in their order, each a stage of its own.
@@ -59,14 +55,12 @@ fn apply_definitions(work: &mut [u8], text: Progress, extra: usize, table: &[u8]
     ensures untouched { (ds : List Definition) → definitions table.now ≡ some ds → Untouched work.old work.new text result (map defined_match ds) }
 {
     let mut done = text;
-    let mut cursor = Cursor::Start;
-    loop {
-        let Reading::Whole(found) = table_order::next(table, cursor) else {
-            return done;
-        };
+    let mut cursor = None;
+    while let Some(found) = table_order::next(table, cursor) {
         done = apply_definition(work, done, extra, table, found);
-        cursor = Cursor::Behind(found);
+        cursor = Some(found);
     }
+    done
 }
 
 // The stages of the definitions of a table that number 3 lets pass, and number 6. Lengths count the held blocks in full.
@@ -77,11 +71,9 @@ pub fn apply_definitions_outside_text(work: &mut [u8], text: Progress, table: &[
     ensures answered { (ds : List Definition) → definitions table.now ≡ some ds → Answered work.old work.new text result (apply_definitions_outside_text ds) }
     ensures untouched { (ds : List Definition) → definitions table.now ≡ some ds → Untouched work.old work.new text result (text_opening ∷ map defined_match ds) }
 {
-    let Progress::Text(from, n) = text else {
-        return text;
-    };
-    let held = held_stages::hold_texts(work, from, n);
-    let outside = Progress::Text(held.at, held.len);
+    let place = text?;
+    let held = held_stages::hold_texts(work, place);
+    let outside = Ok(held.text);
     let defined = apply_definitions(work, outside, held.extra, table);
-    held_stages::put_all_back(work, defined, held.texts, held.used)
+    held_stages::put_all_back(work, defined, held)
 }

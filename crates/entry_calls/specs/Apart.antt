@@ -5,15 +5,15 @@ use Rattle.spec.specs.Pipeline.{Call}
 use Rattle.plain_printing.specs.Calls.{NoRecords}
 use Rattle.plain_printing.proofs.Calls.{calls-apart}
 use Rattle.entry_ends.specs.Answer.{meaning}
-use Rattle.entry_ends.specs.declared.Answer.{Answer}
-use Rattle.entry_ends.specs.declared.Answer.TheVariants.{Done}
+use Rattle.entry_ends.specs.Answer.{Answer}
+use Rattle.std.specs.Prelude.{Ok}
 
 pub outputs-apart :
     {formula table work output work' output' formula₁ table₁ work₁ output₁ work₁' output₁' : List ℕ} {field : ℕ} {answer answer₁ : Answer} {n m : ℕ}
     → Call formula table true field work output (meaning answer) work' output'
     → Call formula₁ table₁ true field work₁ output₁ (meaning answer₁) work₁' output₁'
-    → answer ≡ Done n
-    → answer₁ ≡ Done m
+    → answer ≡ Ok n
+    → answer₁ ≡ Ok m
     → NoRecords table
     → NoRecords table₁
     → Plain formula

@@ -15,11 +15,11 @@ use Rattle.spec.specs.Starred.{starred, starred-hold}
 use Rattle.plain_printing.specs.Calls.{NoRecords}
 use Rattle.plain_printing.proofs.Calls.{none_or}
 use Rattle.entry_ends.specs.Answer.{meaning, means-done}
-use Rattle.entry_ends.specs.declared.Answer.{Answer}
-use Rattle.entry_ends.specs.declared.Answer.TheVariants.{Done}
+use Rattle.entry_ends.specs.Answer.{Answer}
+use Rattle.std.specs.Prelude.{Ok}
 
 pub record Gives (latex work output : List ℕ) (answer : Answer) (work' output' : List ℕ) : Type 0 where
-  pub answers : answer ≡ Done (length latex)
+  pub answers : answer ≡ Ok (length latex)
   pub clears : work' ≡ replicate (length work) 0
   pub writes : output' ≡ latex ++ drop (length latex) output
 

@@ -36,9 +36,9 @@ pub fn both_and_join(
     ensures first { Call formula1.now table1.now true field work1.old output1.old (meaning result.first) work1.new output1.new }
     ensures second { Call formula2.now table2.now true field work2.old output2.old (meaning result.second) work2.new output2.new }
     ensures whole { Call formula.now table.now true field work.old output.old (meaning result.join) work.new output.new }
-    ensures joins { (k n m : ℕ) → result.join ≡ Answer.Done k → result.first ≡ Answer.Done n → result.second ≡ Answer.Done m → NoRecords table.now → NoRecords table1.now → NoRecords table2.now → formula.now ≡ joined formula1.now formula2.now → Plain formula1.now → Plain formula2.now → take k output.new ≡ joined (take n output1.new) (take m output2.new) }
-    ensures first_accepted { (k : ℕ) → result.join ≡ Answer.Done k → NoRecords table.now → NoRecords table1.now → formula.now ≡ joined formula1.now formula2.now → (p : Plain formula1.now) → Plain formula2.now → least_work ≤ length work1.old → length (latex_of field p) ≤ length output1.old → result.first ≡ Answer.Done (length (latex_of field p)) }
-    ensures second_accepted { (k : ℕ) → result.join ≡ Answer.Done k → NoRecords table.now → NoRecords table2.now → formula.now ≡ joined formula1.now formula2.now → Plain formula1.now → (q : Plain formula2.now) → least_work ≤ length work2.old → length (latex_of field q) ≤ length output2.old → result.second ≡ Answer.Done (length (latex_of field q)) }
+    ensures joins { (k n m : ℕ) → result.join ≡ Ok k → result.first ≡ Ok n → result.second ≡ Ok m → NoRecords table.now → NoRecords table1.now → NoRecords table2.now → formula.now ≡ joined formula1.now formula2.now → Plain formula1.now → Plain formula2.now → take k output.new ≡ joined (take n output1.new) (take m output2.new) }
+    ensures first_accepted { (k : ℕ) → result.join ≡ Ok k → NoRecords table.now → NoRecords table1.now → formula.now ≡ joined formula1.now formula2.now → (p : Plain formula1.now) → Plain formula2.now → least_work ≤ length work1.old → length (latex_of field p) ≤ length output1.old → result.first ≡ Ok (length (latex_of field p)) }
+    ensures second_accepted { (k : ℕ) → result.join ≡ Ok k → NoRecords table.now → NoRecords table2.now → formula.now ≡ joined formula1.now formula2.now → Plain formula1.now → (q : Plain formula2.now) → least_work ≤ length work2.old → length (latex_of field q) ≤ length output2.old → result.second ≡ Ok (length (latex_of field q)) }
 {
     Triple {
         first: typst_to_latex(formula1, table1, true, field, work1, output1),

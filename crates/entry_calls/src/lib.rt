@@ -34,7 +34,7 @@ pub fn both(
 ) -> Pair
     ensures first { Call formula1.now table1.now true field work1.old output1.old (meaning result.first) work1.new output1.new }
     ensures second { Call formula2.now table2.now true field work2.old output2.old (meaning result.second) work2.new output2.new }
-    ensures apart { (n m : ℕ) → result.first ≡ Answer.Done n → result.second ≡ Answer.Done m → NoRecords table1.now → NoRecords table2.now → Plain formula1.now → Plain formula2.now → formula1.now ≢ formula2.now → take n output1.new ≢ take m output2.new }
+    ensures apart { (n m : ℕ) → result.first ≡ Ok n → result.second ≡ Ok m → NoRecords table1.now → NoRecords table2.now → Plain formula1.now → Plain formula2.now → formula1.now ≢ formula2.now → take n output1.new ≢ take m output2.new }
 {
     Pair {
         first: typst_to_latex(formula1, table1, true, field, work1, output1),

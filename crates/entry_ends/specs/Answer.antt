@@ -8,23 +8,29 @@ use Rattle.std.specs.Prelude.{◌≡◌, List, ℕ, length}
 use Rattle.spec.specs.Result.{Result, passed, refused, ◌then◌}
 use Rattle.spec.specs.Pipeline.{checked, admitted, fitting, answer_of, output_after}
 use Rattle.text.specs.Stage.{number, shown, Ready}
-use Rattle.text.specs.declared.Progress.{Progress}
-use Rattle.entry_ends.specs.declared.Answer.{Answer}
-use Rattle.entry_ends.specs.declared.Answer.TheVariants.{Done, Refused}
-use Rattle.entry_ends.specs.declared.admission.Verdict.{Verdict}
-use Rattle.entry_ends.specs.declared.admission.Verdict.TheVariants.{Passed, Refused as Failed}
+use Rattle.text.specs.Stage.{Progress}
+use Rattle.text.specs.declared.Refusal.{Refusal}
+use Rattle.std.specs.Prelude.{Result as Either, Ok, Err}
+
+-- the length of the LaTeX, or why there is none
+abbrev pub Answer : Type 0
+Answer = Either ℕ Refusal
+
+-- what the checks came to
+abbrev pub Verdict : Type 0
+Verdict = Either (Unit {0}) Refusal
 
 abbrev pub meaning : Answer → Result ℕ
-meaning (Done n) = passed n
-meaning (Refused why) = refused (number why)
+meaning (Ok n) = passed n
+meaning (Err why) = refused (number why)
 
-pub means-done : {n : ℕ} (answer : Answer) → meaning answer ≡ passed n → answer ≡ Done n
-means-done (Done m) e = cc
-means-done (Refused why) e = cc
+pub means-done : {n : ℕ} (answer : Answer) → meaning answer ≡ passed n → answer ≡ Ok n
+means-done (Ok m) e = cc
+means-done (Err why) e = cc
 
 abbrev pub verdict_of : List ℕ → Verdict → Result (List ℕ)
-verdict_of formula Passed = passed formula
-verdict_of formula (Failed why) = refused (number why)
+verdict_of formula (Ok u) = passed formula
+verdict_of formula (Err why) = refused (number why)
 
 pub record Checks (formula table : List ℕ) (v : Verdict) : Type 0 where
   pub answers : verdict_of formula v ≡ checked formula table

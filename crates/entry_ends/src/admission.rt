@@ -5,30 +5,23 @@ ghost use Rattle.spec.specs.Symbols.{foreign, any};
 ghost use Rattle.entry_ends.specs.Answer.{Checks, Admits};
 
 use super::output::copy_over;
-use text::{Progress, Refusal};
+use text::{Progress, Refusal, TextPlace};
 use text_symbols::Class;
 
-// What the checks came to.
-#[derive(Clone, Copy)]
-pub enum Verdict {
-    Passed,
-    Refused(Refusal),
-}
-
 // Numbers 2, 1 and 3, in this order, of a call's formula and table.
-pub fn check(formula: &[u8], table: &[u8]) -> Verdict
+pub fn check(formula: &[u8], table: &[u8]) -> Result<(), Refusal>
     ensures { Checks formula.now table.now result }
 {
     if text::MOST_FORMULA < formula.len() {
-        return Verdict::Refused(Refusal::LongFormula);
+        return Err(Refusal::LongFormula);
     }
     if has_foreign(formula) {
-        return Verdict::Refused(Refusal::ForeignByte);
+        return Err(Refusal::ForeignByte);
     }
     if table_faults::is_faulty(table) {
-        return Verdict::Refused(Refusal::FaultyTable);
+        return Err(Refusal::FaultyTable);
     }
-    Verdict::Passed
+    Ok(())
 }
 
 // The formula as the first text of the work buffer, or its refusal: number 15, then the checks.
@@ -37,18 +30,18 @@ pub fn admit(work: &mut [u8], formula: &[u8], table: &[u8], field: u32) -> Progr
     ensures { Admits formula.now table.now field work.old work.new result }
 {
     if text::ALL_TALL < field {
-        return Progress::Refused(Refusal::TallField);
+        return Err(Refusal::TallField);
     }
-    match check(formula, table) {
-        Verdict::Passed => {
-            copy_over(work, formula);
-            Progress::Text(0, formula.len())
-        }
-        Verdict::Refused(why) => Progress::Refused(why),
-    }
+    check(formula, table)?;
+    copy_over(work, formula);
+    Ok(TextPlace {
+        at: 0,
+        n: formula.len(),
+    })
 }
 
-// Number 1: whether a byte of the formula is foreign.
+// Number 1: whether a byte of the formula is foreign. `is_faulty_latex` of `table_faults` is the like for another class: one function for
+// both would only be `all_in` again.
 fn has_foreign(formula: &[u8]) -> bool
     ensures { result ≡ any foreign formula.now }
 {

@@ -4,13 +4,9 @@
 mod admission;
 mod output;
 
-pub use admission::{Verdict, admit, check};
+pub use admission::{admit, check};
 pub use output::put_out;
 use text::Refusal;
 
 // The byte count of the LaTeX, or why there is none.
-#[derive(Clone, Copy)]
-pub enum Answer {
-    Done(usize),
-    Refused(Refusal),
-}
+pub type Answer = Result<usize, Refusal>;

@@ -4,16 +4,14 @@ ghost use Rattle.text.specs.Stage.{Ready};
 ghost use Rattle.entry_ends.specs.Answer.{PutOut};
 
 use super::Answer;
-use text::{Progress, Refusal};
+use text::{Progress, Refusal, TextPlace};
 
 // Copies the source to the start of the target.
 pub fn copy_over(target: &mut [u8], source: &[u8])
     requires { length source.now ≤ length target.old }
     ensures { target.new ≡ source.now ++ drop (length source.now) target.old }
 {
-    for i in 0..source.len() {
-        target[i] = source[i];
-    }
+    target[..source.len()].copy_from_slice(source);
 }
 
 // The finished text to the output, if it fits.
@@ -21,15 +19,11 @@ pub fn put_out(work: &[u8], finished: Progress, output: &mut [u8]) -> Answer
     requires { Ready work.now finished }
     ensures { PutOut work.now finished result output.old output.new }
 {
-    match finished {
-        Progress::Refused(why) => Answer::Refused(why),
-        Progress::Text(at, n) => {
-            if output.len() < n {
-                return Answer::Refused(Refusal::ShortOutput);
-            }
-            let end = at + n;
-            copy_over(output, &work[at..end]);
-            Answer::Done(n)
-        }
+    let TextPlace { at, n } = finished?;
+    if output.len() < n {
+        return Err(Refusal::ShortOutput);
     }
+    let end = at + n;
+    copy_over(output, &work[at..end]);
+    Ok(n)
 }

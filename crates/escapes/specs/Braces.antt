@@ -16,12 +16,13 @@ use Rattle.spec.specs.Laws.Symbols.{drop-step, find-nowhere}
 use Rattle.spec.specs.Laws.Braces.{bare_behind, stack_behind}
 use Rattle.spec.proofs.Braces.{escape-step}
 use Rattle.text_symbols.specs.Parts.{part, length_part}
+use Rattle.text.specs.declared.writer.Writer.{Writer}
 use Rattle.text.specs.Writer.{Regions, Appended}
 use Rattle.text.specs.Filling.{Filling, filling-more, filling-source, filling-symbol}
 use Rattle.text_symbols.specs.Places.{head-before, before, before-next}
 use Rattle.text_closing.specs.Backward.{ClosesBack, back_at, back-within, back-nothing}
-use Rattle.text_search.specs.declared.Found.{Found}
-use Rattle.text_search.specs.declared.Found.TheVariants.{At, Nothing}
+use Rattle.text_search.specs.Search.{Found}
+use Rattle.std.specs.Prelude.{Some, None, MatchOption}
 
 unfoldable pub stack_of : List ℕ → List Bool
 stack_of [] = []
@@ -75,14 +76,14 @@ top-close (x ∷ p) d = go (eqb x (code "}")) refl (eqb x (code "{")) refl d (to
     go false e true f (suc d) further = rw (e, f, stack_of, stack_behind, close) (further d)
     go false e false f d further = rw (f, e, stack_of, stack_behind, close) (further d)
 
-module _ (s : List ℕ) {r : Found} (back : ClosesBack s r (close (code "}") (code "{") 0 (reverse s))) where
-  pub top-at : {k : ℕ} → r ≡ At k → top (stack_of (reverse s)) ≡ groups_behind (get_or (0 ∷ s) k 0)
-  top-at {k} e =
-      let inside = back-within back e in
-      top-close (reverse s) 0 ∙ ap is_grouping (back_at back e) ∙ ap groups_behind (head-before s k (omega arith))
-
-  pub top-none : r ≡ Nothing → top (stack_of (reverse s)) ≡ true
-  top-none e = top-close (reverse s) 0 ∙ ap is_grouping (back-nothing back e)
+-- the last brace that is open groups by the symbol before it, and with none open its closer stays bare
+pub top-found :
+    (s : List ℕ) {r : Found} {b : Bool} → ClosesBack s r (close (code "}") (code "{") 0 (reverse s))
+    → MatchOption r (b ≡ true) (λ k. b ≡ groups_behind (get_or (0 ∷ s) k 0)) → b ≡ top (stack_of (reverse s))
+top-found s {r = Some k} back e =
+    let inside = back-within back refl in
+    e ∙ sym (top-close (reverse s) 0 ∙ ap is_grouping (back_at back refl) ∙ ap groups_behind (head-before s k (omega arith)))
+top-found s {r = None} back e = e ∙ sym (top-close (reverse s) 0 ∙ ap is_grouping (back-nothing back refl))
 
 -- ---- the symbol at a place
 module _ (s : List ℕ) (i : ℕ) (within : i ≤ length s) where
@@ -90,9 +91,9 @@ module _ (s : List ℕ) (i : ℕ) (within : i ≤ length s) where
   unfolding bare_after
   bare-opener e = ap (bare_after (before s i)) e ∙ ap groups_behind (head-before s i within)
 
-  pub bare-closer : get_or s i 0 ≡ code "}" → bare_at s i ≡ top (stack_of (reverse (part 0 (i - 0) s)))
+  pub bare-closer : get_or s i 0 ≡ code "}" → bare_at s i ≡ top (stack_of (before s i))
   unfolding bare_after
-  bare-closer e = let z : i ≡ i - 0 = omega arith in ap (bare_after (before s i)) e ∙ ap (λ k. top (stack_of (before s k))) z
+  bare-closer e = ap (bare_after (before s i)) e
 
   pub bare-other : (get_or s i 0 ≡ code "{" → ⊥) → (get_or s i 0 ≡ code "}" → ⊥) → bare_at s i ≡ true
   unfolding bare_after
@@ -114,11 +115,11 @@ escape-absent s e = escape-none 0 s e
 
 -- ---- a turn of the loop: the symbol at place i has been written
 module _
-    {w₀ w w' : List ℕ} {from n to cap count₀ count count' i : ℕ} {whole : List ℕ} {bare : Bool}
-    (regions : Regions w₀ from n to cap count₀) (filling : Filling w₀ w to cap count₀ count (escaped_from (part from n w₀) i) whole) (more : i < n)
-    (test : bare ≡ bare_at (part from (from + n - from) w) i) (a : Appended w w' to cap count count' (brace bare (get_or w (from + i) 0)))
+    {w₀ w w' : List ℕ} {from n : ℕ} {o₀ o o' : Writer} {i : ℕ} {whole : List ℕ} {bare : Bool}
+    (regions : Regions w₀ from n o₀) (filling : Filling w₀ w o₀ o (escaped_from (part from n w₀) i) whole) (more : i < n)
+    (test : bare ≡ bare_at (part from (from + n - from) w) i) (a : Appended w w' o o' (brace bare (get_or w (from + i) 0)))
   where
-    pub escaped-from-more : Filling w₀ w' to cap count₀ count' (escaped_from (part from n w₀) (i + 1)) whole
+    pub escaped-from-more : Filling w₀ w' o₀ o' (escaped_from (part from n w₀) (i + 1)) whole
     escaped-from-more =
         let l = length_part from n w₀ regions.source in
         filling-more filling a
@@ -127,7 +128,7 @@ module _
         (sym (test ∙ ap (λ s. bare_at s i) (filling-source filling from n regions.apart)))
         (sym (filling-symbol filling from n regions.apart i more)))
 
-    pub escaped-from-few : count' ≤ count + 2
+    pub escaped-from-few : o'.count ≤ o.count + 2
     escaped-from-few = let c = a.counted in let l = short bare (get_or w (from + i) 0) in omega arith
       where
         short : (b : Bool) (x : ℕ) → length (brace b x) ≤ 2

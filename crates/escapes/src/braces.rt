@@ -8,8 +8,7 @@ ghost use Rattle.text.specs.Writer.{Room, Appended, Regions};
 ghost use Rattle.text.specs.Stage.{Ready, Staged};
 ghost use Rattle.escapes.specs.Braces.{stack_of, bare_at};
 
-use text::{Due, Progress};
-use text_search::Found;
+use text::{Due, Progress, TextPlace, Writer};
 
 // Whether a brace behind this symbol groups.
 fn is_grouping(before: u8) -> bool
@@ -26,10 +25,10 @@ fn open_groups(s: &[u8]) -> bool
     requires { length s.now ≤ most_symbols }
     ensures { result ≡ top (stack_of (reverse s.now)) }
 {
-    let Found::At(at) = text_closing::find_closer_back(s, b'}', b'{') else {
-        return true;
-    };
-    is_grouping(text_search::symbol_before(s, at))
+    text_closing::find_closer_back(s, b'}', b'{').map_or(
+        true,
+        |at| is_grouping(text_search::symbol_before(s, at)),
+    )
 }
 
 // Whether the symbol at a place is written as it is.
@@ -37,44 +36,30 @@ fn is_bare(s: &[u8], i: usize) -> bool
     requires { (i < length s.now) × (length s.now ≤ most_symbols) }
     ensures { result ≡ bare_at s.now i }
 {
-    let b = s[i];
-    if b == b'{' {
-        return is_grouping(text_search::symbol_before(s, i));
+    match s[i] {
+        b'{' => is_grouping(text_search::symbol_before(s, i)),
+        b'}' => open_groups(&s[..i]),
+        _ => true,
     }
-    if b == b'}' {
-        return open_groups(&s[0..i]);
-    }
-    true
 }
 
-// Appends a symbol, behind a backslash where it is not bare.
-fn put_brace(work: &mut [u8], to: usize, count: usize, bare: bool, b: u8) -> usize
-    requires { Room work.old to most_symbols count 2 }
-    ensures { Appended work.old work.new to most_symbols count result (brace bare b) }
+// Writes the text at `source`, a backslash before those that are not bare.
+fn escape(work: &mut [u8], source: TextPlace, out: Writer) -> Writer
+    requires regions { Regions work.old source.at source.n out }
+    requires n_le_most_symbols { source.n ≤ most_symbols }
+    ensures { Appended work.old work.new out result (escape_set_braces (part source.at source.n work.old)) }
 {
-    if bare {
-        return text::put(work, to, text::CAP, count, b);
-    }
-    let escaped = text::put(work, to, text::CAP, count, b'\\');
-    text::put(work, to, text::CAP, escaped, b)
-}
-
-// Writes the `n` symbols at `from` to `to`, set braces escaped. The result is the finished text's length.
-fn escape(work: &mut [u8], from: usize, n: usize, to: usize) -> usize
-    requires regions { Regions work.old from n to most_symbols 0 }
-    requires n_le_most_symbols { n ≤ most_symbols }
-    ensures { Appended work.old work.new to most_symbols 0 result (escape_set_braces (part from n work.old)) }
-{
+    let TextPlace { at: from, n } = source;
     let end = from + n;
-    let mut count = 0;
-    let mut i = 0;
-    while i < n {
-        let bare = is_bare(&work[from..end], i);
+    let mut out = out;
+    for i in 0..n {
         let b = work[from + i];
-        count = put_brace(work, to, count, bare, b);
-        i += 1;
+        if !is_bare(&work[from..end], i) {
+            out = out.put(work, b'\\');
+        }
+        out = out.put(work, b);
     }
-    count
+    out
 }
 
 // The stage. A text with no opening brace stays where it is: its closers are unmatched, and stay bare.
@@ -82,9 +67,8 @@ pub fn escape_set_braces(work: &mut [u8], text: Progress) -> Progress
     requires { Ready work.old text }
     ensures { Staged work.old work.new text result (stage escape_set_braces) }
 {
-    let Due::Rewrite(from, n, to, _) = text::due_for(work, text, b"{") else {
+    let Some(Due { source, out, .. }) = text::due_for(work, text, b"{") else {
         return text;
     };
-    let count = escape(work, from, n, to);
-    text::finished(to, count)
+    escape(work, source, out).finished()
 }

@@ -14,6 +14,7 @@ pub fn read_full<R: Read>(reader: &mut R, buffer: &mut [u8]) -> io::Result<usize
     ensures end { IfOk result (λ n. n < length buffer.new → IsAtEnd (R.remaining reader.new)) }
 {
     let mut n = 0;
+    // The step varies: a read says how many bytes it gave.
     while n < buffer.len() {
         let more = reader.read(&mut buffer[n..])?;
         if more == 0 {

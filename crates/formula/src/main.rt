@@ -6,17 +6,15 @@
 mod reading;
 
 use formula_text::{INPUT, OUTPUT, TABLE, TEXT, WORK};
-use reading::BytesRead;
 use std::rt::Files;
 
 fn main(rt: HostRuntime) {
     let mut input = [0; INPUT];
-    let BytesRead::Bytes(n) = reading::read_all(&rt, &mut rt.reader(), "standard input", &mut input)
-    else {
+    let Some(n) = reading::read_all(&rt, &mut rt.reader(), "standard input", &mut input) else {
         return;
     };
     let mut table = [0; TABLE];
-    let BytesRead::Bytes(m) = read_table(&rt, &input, n, &mut table) else {
+    let Some(m) = read_table(&rt, &input, n, &mut table) else {
         return;
     };
     let mut work = [0; WORK];
@@ -34,9 +32,9 @@ fn read_table<R: Files + Eprint + Alloc>(
     input: &[u8; INPUT],
     n: usize,
     table: &mut [u8],
-) -> BytesRead {
+) -> Option<usize> {
     if !formula_text::wants_table(input, n) {
-        return BytesRead::Bytes(0);
+        return Some(0);
     }
     reading::read_file(rt, "sheet.defs", table)
 }

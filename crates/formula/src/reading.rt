@@ -3,37 +3,35 @@ use std::io::{ErrorKind, Read};
 use std::rt::Files;
 use std::{fs, io};
 
-// How many bytes have been read, or that reading failed, which has been said.
-#[derive(Clone, Copy)]
-pub enum BytesRead {
-    Bytes(usize),
-    Failed,
-}
-
-// Reads until the buffer is full or the input ends, in pieces of any size.
+// Reads until the buffer is full or the input ends, in pieces of any size: how many bytes have been read, or none where reading failed, which has
+// been said.
 pub fn read_all<R: Eprint + Alloc, S: Read>(
     rt: &R,
     source: &mut S,
     name: &str,
     buffer: &mut [u8],
-) -> BytesRead {
+) -> Option<usize> {
     match filling::read_full(source, buffer) {
-        Ok(n) => BytesRead::Bytes(n),
+        Ok(n) => Some(n),
         Err(why) => {
             say_failed(rt, name, why);
-            BytesRead::Failed
+            None
         }
     }
 }
 
 // The same of a file. One that is absent has no bytes.
-pub fn read_file<R: Files + Eprint + Alloc>(rt: &R, name: &str, buffer: &mut [u8]) -> BytesRead {
+pub fn read_file<R: Files + Eprint + Alloc>(
+    rt: &R,
+    name: &str,
+    buffer: &mut [u8],
+) -> Option<usize> {
     match fs::open(rt, name) {
         Ok(mut file) => read_all(rt, &mut file, name, buffer),
-        Err(why) if why.kind() == ErrorKind::NotFound => BytesRead::Bytes(0),
+        Err(why) if why.kind() == ErrorKind::NotFound => Some(0),
         Err(why) => {
             say_failed(rt, name, why);
-            BytesRead::Failed
+            None
         }
     }
 }

@@ -4,7 +4,7 @@
 
 ghost use Rattle.std.specs.Prelude.{◌≤◌};
 
-use case_input::Next;
+use case_input::Case;
 use formula_text::{INPUT, OUTPUT, TABLE, TEXT, WORK};
 use std::io;
 use std::io::Read;
@@ -15,26 +15,22 @@ const CASES: usize = 1_000;
 fn main(rt: HostRuntime) -> io::Result<()> {
     let mut cases = rt.reader();
     for _ in 0..CASES {
-        if !answer_next(&rt, &mut cases)? {
+        let Some(case) = case_input::next_case(&mut cases, INPUT, TABLE)? else {
             return Ok(());
-        }
+        };
+        answer(&rt, &mut cases, case)?;
     }
     Ok(())
 }
 
-// Whether there was a case.
-fn answer_next<R: Read>(rt: &impl Print, cases: &mut R) -> io::Result<bool> {
-    let Next::Case(n, m) = case_input::next_case(cases, INPUT, TABLE)? else {
-        return Ok(false);
-    };
-    answer(rt, cases, n, m)?;
-    Ok(true)
-}
-
 // What stands behind the bytes that are read, or in the buffers before, must not count, so it is no zeros.
-fn answer<R: Read>(rt: &impl Print, cases: &mut R, n: usize, m: usize) -> io::Result<()>
-    requires { (n ≤ 4099) × (m ≤ 32769) }
+fn answer<R: Read>(rt: &impl Print, cases: &mut R, case: Case) -> io::Result<()>
+    requires { (case.first ≤ 4099) × (case.second ≤ 32769) }
 {
+    let Case {
+        first: n,
+        second: m,
+    } = case;
     let mut input = [b'd'; INPUT];
     let mut table = [b'd'; TABLE];
     let mut work = [b'd'; WORK];

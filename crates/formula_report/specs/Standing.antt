@@ -1,11 +1,11 @@
 -- A text that was written to the start of a buffer. Assumes nothing.
 --     most_text          the longest text of an answer
 --     Stands            a text begins the buffer
---     Extends           bytes have been appended to a text that begins the buffer
---     extends-stands    what was appended to none stands there, if it fits
+--     appended-stands   what was appended to none stands there, if it fits
 use Rattle.std.specs.Prelude.{◌≡◌, refl, List, [], ◌∷◌, ◌++◌, ℕ, suc, ◌+◌, ◌≤◌, ◌<◌, length, set, drop}
 use Rattle.std.proofs.Common.{sym, ap, ◌∙◌, subst, append_assoc, append-nil, zero-add, arith, length-append}
 use Rattle.spec.specs.Program.{most_output}
+use Rattle.text.specs.declared.writer.Writer.{Writer}
 use Rattle.text.specs.Writer.{stored, puts, put-below, Appended, appended-more, appended-long}
 
 -- the longest text: `ok`, a space, four digits, a newline, the LaTeX, a newline
@@ -17,13 +17,9 @@ pub record Stands (text w : List ℕ) (count : ℕ) (w' : List ℕ) : Type 0 whe
   pub counted : count ≡ length text
   pub written : w' ≡ text ++ drop (length text) w
 
--- the text has had `count` bytes, and has `count'`
-abbrev pub Extends : List ℕ → List ℕ → ℕ → ℕ → List ℕ → Type 0
-Extends w w' count count' bs = Appended w w' 0 (length w) count count' bs
-
-pub extends-more :
-    {w w' w'' : List ℕ} {count count' count'' : ℕ} {bs cs : List ℕ} → Extends w w' count count' bs → Extends w' w'' count' count'' cs → Extends w w'' count count'' (bs ++ cs)
-extends-more {w' = w'} {w''} {count' = count'} {count''} {cs = cs} a b = appended-more a (subst (λ cap. Appended w' w'' 0 cap count' count'' cs) (appended-long a) b)
+-- the writer that has all of a buffer before it
+abbrev pub begun : List ℕ → Writer
+begun w = record { to = 0; cap = length w; count = 0 }
 
 -- ---- what was appended to none
 set-behind : (out w : List ℕ) (b : ℕ) → length out < length w → set (out ++ drop (length out) w) (length out) b ≡ out ++ (b ∷ []) ++ drop (length (out ++ (b ∷ []))) w
@@ -47,5 +43,5 @@ puts-behind (b ∷ bs) out w h =
     ∙ puts-behind bs (out ++ (b ∷ [])) w (omega arith)
     ∙ ap (λ (l : List ℕ). l ++ drop (length l) w) (append_assoc out (b ∷ []) bs)
 
-pub extends-stands : {w w' : List ℕ} {count : ℕ} {out : List ℕ} → Extends w w' 0 count out → length out ≤ length w → Stands out w count w'
-extends-stands {w} {out = out} a fits = record { counted = a.counted ∙ zero-add (length out); written = a.work ∙ puts-behind out [] w (omega arith) }
+pub appended-stands : {w w' : List ℕ} {o : Writer} {out : List ℕ} → Appended w w' (begun w) o out → length out ≤ length w → Stands out w o.count w'
+appended-stands {w} {out = out} a fits = record { counted = a.counted ∙ zero-add (length out); written = a.work ∙ puts-behind out [] w (omega arith) }

@@ -1,15 +1,16 @@
 // The text of the answer of the program `formula`, at the start of a buffer.
 #![tactic(auto)]
 
-ghost use Rattle.std.specs.Prelude.{◌+◌, ◌^◌, ◌≤◌, ◌<◌, [], ◌∷◌, length};
+ghost use Rattle.std.specs.Prelude.{◌≡◌, ◌≤◌, ◌<◌, [], ◌∷◌, length};
 ghost use Rattle.spec.specs.Symbols.{bytes};
 ghost use Rattle.spec.specs.Result.{passed, refused};
 ghost use Rattle.spec.specs.Program.{decimal, most_output, reported};
+ghost use Rattle.text.specs.Writer.{Room, Appended};
 ghost use Rattle.text.specs.Stage.{number};
 ghost use Rattle.formula_report.specs.Decimal.{last_digit};
-ghost use Rattle.formula_report.specs.Standing.{most_text, Stands, Extends};
+ghost use Rattle.formula_report.specs.Standing.{most_text, begun, Stands};
 
-use text::Refusal;
+use text::{Refusal, Writer};
 
 // `ok`, a space, the byte count, a newline, the LaTeX, a newline.
 pub fn put_latex(text: &mut [u8], latex: &[u8]) -> usize
@@ -17,11 +18,11 @@ pub fn put_latex(text: &mut [u8], latex: &[u8]) -> usize
     requires latex_len_bound { length latex.now ≤ most_output }
     ensures { Stands (reported (passed latex.now)) text.old result text.new }
 {
-    let word = put(text, 0, b"ok ");
-    let count = put_decimal(text, word, latex.len() as u64);
-    let line = put(text, count, b"\n");
-    let end = put(text, line, latex);
-    put(text, end, b"\n")
+    let word = begin(text).put_all(text, b"ok ");
+    let number = put_decimal(text, word, latex.len() as u64);
+    let line = number.put_all(text, b"\n");
+    let end = line.put_all(text, latex);
+    end.put_all(text, b"\n").count
 }
 
 // `refused`, a space, the number, a newline.
@@ -29,9 +30,9 @@ pub fn put_refusal(text: &mut [u8], why: Refusal) -> usize
     requires { most_text ≤ length text.old }
     ensures { Stands (reported (refused (number why))) text.old result text.new }
 {
-    let word = put(text, 0, b"refused ");
-    let number = put_decimal(text, word, text::number(why));
-    put(text, number, b"\n")
+    let word = begin(text).put_all(text, b"refused ");
+    let number = put_decimal(text, word, u64::from(why));
+    number.put_all(text, b"\n").count
 }
 
 // What is said of a first line that is neither.
@@ -39,35 +40,38 @@ pub fn put_neither(text: &mut [u8]) -> usize
     requires { most_text ≤ length text.old }
     ensures { Stands (bytes "first line: d or i\n") text.old result text.new }
 {
-    put(text, 0, b"first line: d or i\n")
+    begin(text).put_all(text, b"first line: d or i\n").count
 }
 
-// Appends `bytes` to the text of `count` bytes.
-fn put(text: &mut [u8], count: usize, bytes: &[u8]) -> usize
-    requires { count + length bytes.now < 2 ^ 32 }
-    ensures { Extends text.old text.new count result bytes.now }
+// The writer that has all of the text before it.
+fn begin(text: &[u8]) -> Writer
+    ensures { result ≡ begun text.now }
 {
-    let cap = text.len();
-    text::put_all(text, 0, cap, count, bytes)
+    Writer {
+        to: 0,
+        cap: text.len(),
+        count: 0,
+    }
 }
 
-// Appends a number of up to four digits.
-fn put_decimal(text: &mut [u8], count: usize, n: u64) -> usize
-    requires { (n < 10000) × (count < 100) }
-    ensures { Extends text.old text.new count result (decimal n) }
+// Appends a number of up to four digits. A `write!` would not do: by its contract it may fail, and there is nothing to say of a report that did.
+fn put_decimal(text: &mut [u8], out: Writer, n: u64) -> Writer
+    requires few { n < 10000 }
+    requires room { Room text.old out 5 }
+    ensures extended { Appended text.old text.new out result (decimal n) }
+    ensures short { length (decimal n) ≤ 4 }
 {
     if n < 10 {
-        return put_digit(text, count, n);
+        return put_digit(text, out, n);
     }
-    let end = put_decimal(text, count, n / 10);
+    let end = put_decimal(text, out, n / 10);
     put_digit(text, end, n)
 }
 
 // Appends the last digit of a number.
-fn put_digit(text: &mut [u8], count: usize, n: u64) -> usize
-    requires { count < 1000 }
-    ensures { Extends text.old text.new count result (last_digit n ∷ []) }
+fn put_digit(text: &mut [u8], out: Writer, n: u64) -> Writer
+    requires { Room text.old out 1 }
+    ensures { Appended text.old text.new out result (last_digit n ∷ []) }
 {
-    let cap = text.len();
-    text::put(text, 0, cap, count, (n % 10) as u8 + b'0')
+    out.put(text, (n % 10) as u8 + b'0')
 }

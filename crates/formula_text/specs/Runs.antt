@@ -15,6 +15,9 @@ use Rattle.spec.specs.Program.{first_line, formula_of, most_output, reported, an
 use Rattle.spec.specs.Laws.Result.{unpassed}
 use Rattle.spec.specs.Laws.Calls.{call-converted}
 use Rattle.formula_text.specs.Cut.{past_formula, past_input, past_table, first-cut, formula-cut, converted-cut}
+use Rattle.std.specs.Prelude.{Option as Maybe, Some, None}
+use Rattle.std.specs.Option.{is_some}
+use Rattle.formula_input.specs.Input.{asked, is_asked}
 use Rattle.formula_report.specs.Standing.{Stands}
 
 -- the answer of a call with the program's buffers, as a text at the start of another
@@ -62,6 +65,10 @@ module _ {formula table work output work' output' : List ℕ} {display : Bool} {
       go (passed latex) e = absurd (unpassed e)
 
 -- ---- a run
+pub some-asked : (r : Maybe Bool) → is_some r ≡ is_asked (asked r)
+some-asked (Some display) = refl
+some-asked None = refl
+
 -- what an input whose first line is known prints, and what it leaves in a buffer
 printed-for :
     (input table : List ℕ) {line : Option Bool} → first_line input ≡ line

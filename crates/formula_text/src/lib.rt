@@ -8,9 +8,6 @@ ghost use Rattle.formula_input.specs.Input.{is_asked};
 ghost use Rattle.formula_report.specs.Standing.{most_text};
 ghost use Rattle.formula_text.specs.Runs.{Converts};
 
-use formula_input::FirstLine;
-use math_conv::Answer;
-
 // One byte more than `d` or `i`, a newline and the longest formula.
 pub const INPUT: usize = 4_099;
 
@@ -40,33 +37,25 @@ pub fn answer(
     ensures upper_bound { result ≤ length text.new }
 {
     let read = front(input, n);
-    match formula_input::first_line(read) {
-        FirstLine::Display(display) => {
-            let formula = formula_input::formula(read);
-            convert(formula, front(table, m), display, work, output, text)
-        }
-        FirstLine::Neither => formula_report::put_neither(text),
-    }
+    let Some(display) = formula_input::first_line(read) else {
+        return formula_report::put_neither(text);
+    };
+    let formula = formula_input::formula(read);
+    convert(formula, front(table, m), display, work, output, text)
 }
 
 // Whether the first line is `d` or `i`: only then the answer depends on the table.
 pub fn wants_table(input: &[u8; INPUT], n: usize) -> bool
     ensures { (whole : List ℕ) → Read input.now n whole → result ≡ is_asked (first_line whole) }
 {
-    match formula_input::first_line(front(input, n)) {
-        FirstLine::Display(_) => true,
-        FirstLine::Neither => false,
-    }
+    formula_input::first_line(front(input, n)).is_some()
 }
 
 // The first n bytes, or all if there are fewer.
 fn front(s: &[u8], n: usize) -> &[u8]
     ensures { result.now ≡ take n s.now }
 {
-    if s.len() < n {
-        return s;
-    }
-    &s[..n]
+    &s[..n.min(s.len())]
 }
 
 // The text of the entry's answer.
@@ -84,7 +73,7 @@ fn convert(
     ensures { Converts formula.now table.now display work.old output.old text.old result work.new output.new text.new }
 {
     match math_conv::typst_to_latex(formula, table, display, text::ALL_TALL, work, output) {
-        Answer::Done(n) => formula_report::put_latex(text, &output[..n]),
-        Answer::Refused(why) => formula_report::put_refusal(text, why),
+        Ok(n) => formula_report::put_latex(text, &output[..n]),
+        Err(why) => formula_report::put_refusal(text, why),
     }
 }

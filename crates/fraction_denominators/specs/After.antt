@@ -1,27 +1,22 @@
 -- The denominator: the jump from `\lvert` to `\rvert`, number 9, and the order of its pieces. Assumes nothing.
-use Rattle.std.specs.Prelude.{◌≡◌, refl, Bool, true, false, ◌||◌, List, [], ◌∷◌, ℕ, ◌+◌, ◌-◌, eqb, length, take, drop}
-use Rattle.std.proofs.Common.{sym, ap, ap₂, ◌∙◌, arith, eq-eqb, ne_eqb, length-drop, drop-drop}
+use Rattle.std.specs.Prelude.{◌≡◌, refl, Bool, true, false, ◌&&◌, List, [], ◌∷◌, ℕ, ◌+◌, ◌-◌, ◌≤◌, eqb, length, take, drop}
+use Rattle.std.proofs.Common.{sym, ap, ◌∙◌, arith, length-drop, drop-drop}
 use Rattle.std.proofs.lemmas.Bool.{false≢true}
+use Rattle.std.proofs.Math.Bool.{and_comm}
 use Rattle.std.proofs.Math.Option.{Option, none, some}
-use Rattle.spec.specs.Symbols.{bytes, is, solidus, is_some, head, past, any, until, starts, ends, find}
+use Rattle.std.specs.Cmp.Lexicographic.{pointwise}
+use Rattle.std.specs.List.{ends_with}
+use Rattle.spec.specs.Symbols.{bytes, is, solidus, head, past, any, until, starts, ends, find}
 use Rattle.spec.specs.Closing.{find_matching_paren}
-use Rattle.spec.specs.Fractions.{word_after, rvert_from, after_lvert, braces, bracket, power, arguments, grouped, shorter_than, after_brackets, after_word, passes_solidus, barred, find_fraction_part_after}
+use Rattle.spec.specs.Fractions.{word_after, rvert_from, after_lvert, braces, bracket, grouped, after_brackets, after_word, passes_solidus, barred, find_fraction_part_after}
+use Rattle.spec.specs.Laws.Ends.{ends-front}
+use Rattle.spec.specs.Laws.Names.{eqb-sym}
 use Rattle.spec.specs.Laws.Symbols.{starts-long, find-starts}
-use Rattle.text_search.specs.Search.{Finds, finds-at, finds-nothing}
-use Rattle.text_search.specs.declared.Found.{Found}
-use Rattle.text_search.specs.declared.Found.TheVariants.{At, Nothing}
+use Rattle.text_search.specs.Search.{Found, Finds, finds-at, finds-nothing}
+use Rattle.std.specs.Prelude.{Some, None, MatchOption}
 use Rattle.text_symbols.specs.Places.{AheadTo}
-use Rattle.fraction_operands.specs.Places.{Place}
-
--- ---- a symbol is looked for as a pattern of one symbol
-pub any_found : (k : ℕ) (s : List ℕ) → any (λ x. eqb x k) s ≡ is_some (find (k ∷ []) s)
-unfolding find
-any_found k [] = refl
-any_found k (x ∷ s) = go (eqb x k) (any_found k s)
-  where
-    go : (b : Bool) → any (λ x. eqb x k) s ≡ is_some (find (k ∷ []) s) → b || any (λ x. eqb x k) s ≡ is_some {A = List ℕ} (elim b [ true ↦ some (x ∷ s) | false ↦ find (k ∷ []) s ])
-    go true h = refl
-    go false h = h
+use Rattle.text_symbols.specs.Parts.{part}
+use Rattle.fraction_operands.specs.Places.{Place, stays, until-ahead}
 
 -- ---- the jump
 abbrev behind_rvert : List ℕ → Option (List ℕ) → List ℕ
@@ -39,7 +34,7 @@ rvert-found (x ∷ s) whole = go (starts (bytes "\\rvert") (x ∷ s)) (rvert-fou
     go false h = h
 
 module _ {s : List ℕ} {start : ℕ} {r : Found} (at : Place s start) (found : Finds (drop start s) r (find (bytes "\\rvert") (drop start s))) where
-  pub rvert-at : {k : ℕ} → r ≡ At k → AheadTo s start (start + k + 6) (rvert_from (drop start s) (drop start s))
+  rvert-at : {k : ℕ} → r ≡ Some k → AheadTo s start (start + k + 6) (rvert_from (drop start s) (drop start s))
   rvert-at {k} e =
       let is = finds-at found e in
       let long = starts-long (bytes "\\rvert") (drop k (drop start s)) (find-starts (bytes "\\rvert") (drop start s) (drop k (drop start s)) is) in
@@ -52,14 +47,42 @@ module _ {s : List ℕ} {start : ℕ} {r : Found} (at : Place s start) (found : 
             ∙ ap (drop 6) (drop-drop k start s) ∙ drop-drop 6 (start + k) s);
       }
 
-  pub rvert-nowhere : r ≡ Nothing → rvert_from (drop start s) (drop start s) ≡ drop start s
+  rvert-nowhere : r ≡ None → rvert_from (drop start s) (drop start s) ≡ drop start s
   rvert-nowhere e = rvert-found (drop start s) (drop start s) ∙ ap (behind_rvert (drop start s)) (finds-nothing found e)
 
-pub lvert-jumps : (word s : List ℕ) → ends (bytes "\\lvert") word ≡ true → after_lvert word s ≡ rvert_from s s
+pub rvert-answer :
+    {s : List ℕ} {start x : ℕ} (r : Found) → Place s start → Finds (drop start s) r (find (bytes "\\rvert") (drop start s))
+    → MatchOption r (x ≡ start) (λ k. x ≡ start + k + 6)
+    → AheadTo s start x (rvert_from (drop start s) (drop start s))
+rvert-answer (Some k) at found e = rw e (rvert-at at found refl)
+rvert-answer None at found e = rw e (stays at (rvert-nowhere at found refl))
+
+lvert-jumps : (word s : List ℕ) → ends (bytes "\\lvert") word ≡ true → after_lvert word s ≡ rvert_from s s
 lvert-jumps word s t = rw (t, after_lvert)
 
-pub lvert-none : (word s : List ℕ) → ends (bytes "\\lvert") word ≡ false → after_lvert word s ≡ s
+lvert-none : (word s : List ℕ) → ends (bytes "\\lvert") word ≡ false → after_lvert word s ≡ s
 lvert-none word s t = rw (t, after_lvert)
+
+-- how a text ends, as the slice's own test says it
+starts-pointwise : (w t : List ℕ) → length t ≤ length w → pointwise eqb w t ≡ starts w t
+starts-pointwise [] [] h = refl
+starts-pointwise [] (x ∷ t) h = absurd (omega arith)
+starts-pointwise (k ∷ w) [] h = refl
+starts-pointwise (k ∷ w) (x ∷ t) h = ap (λ b. eqb k x && b) (starts-pointwise w t (omega arith)) ∙ and_comm (eqb k x) (starts w t) ∙ ap (λ b. starts w t && b) (eqb-sym k x)
+
+ends-slice : (w s : List ℕ) → ends_with eqb s w ≡ ends w s
+ends-slice w s = let n = length-drop (length s - length w) s in starts-pointwise w (drop (length s - length w) s) (omega arith) ∙ sym (ends-front w s)
+
+-- the word lies from place `start` to place `word`
+module _ (s : List ℕ) (start word : ℕ) (order : start ≤ word) (within : word ≤ length s) {b : Bool} (test : b ≡ ends_with eqb (part start (word - start) s) (bytes "\\lvert")) where
+  word-ends : ends (bytes "\\lvert") (until (drop start s) (drop word s)) ≡ b
+  word-ends = ap (ends (bytes "\\lvert")) (until-ahead s start word order within) ∙ sym (test ∙ ends-slice (bytes "\\lvert") (part start (word - start) s))
+
+  pub word-jumps : b ≡ true → after_lvert (until (drop start s) (drop word s)) (drop word s) ≡ rvert_from (drop word s) (drop word s)
+  word-jumps e = lvert-jumps (until (drop start s) (drop word s)) (drop word s) (word-ends ∙ e)
+
+  pub word-stays : b ≡ false → after_lvert (until (drop start s) (drop word s)) (drop word s) ≡ drop word s
+  word-stays e = lvert-none (until (drop start s) (drop word s)) (drop word s) (word-ends ∙ e)
 
 -- ---- number 9: no jump passes nothing
 passes-jump : (word s : List ℕ) → passes_solidus word s ≡ any (λ x. eqb x solidus) (until s (after_lvert word s))
@@ -94,16 +117,3 @@ word-is (x ∷ s) t = rw (t, find_fraction_part_after)
 
 pub after-word : (l w : List ℕ) → is "(" (head l) ≡ false → w ≡ word_after 0 l → find_fraction_part_after l ≡ after_brackets l (bracket (braces 0 (after_lvert (until l w) w)))
 after-word l w t word = word-is l t ∙ ap (after_word l) (sym word)
-
--- the arguments that belong to it
-pub brackets-are :
-    (s : List ℕ) (start base p : ℕ) (raised : Bool) → raised ≡ is "^" (head (drop base s)) → drop p s ≡ power (drop base s)
-    → after_brackets (drop start s) (drop base s) ≡ shorter_than (length (drop start s)) (arguments raised (drop p s))
-brackets-are s start base p raised sign left = ap₂ (λ b l. shorter_than (length (drop start s)) (arguments b l)) (sym sign) (sym left)
-
--- a denominator has a symbol at least
-pub shorter-none : (n : ℕ) (r : List ℕ) → length r ≡ n → shorter_than n (some r) ≡ none
-shorter-none n r e = let t = eq-eqb (length r) n e in rw (t, shorter_than)
-
-pub shorter-some : (n : ℕ) (r : List ℕ) → (length r ≡ n → ⊥) → shorter_than n (some r) ≡ some r
-shorter-some n r h = let t = ne_eqb (length r) n h in rw (t, shorter_than)

@@ -5,7 +5,7 @@
 mod past;
 
 ghost use Rattle.std.specs.Prelude.{◌≡◌, ◌≤◌, eqb, drop};
-ghost use Rattle.spec.specs.Symbols.{any, ends, until, solidus};
+ghost use Rattle.spec.specs.Symbols.{any, until, solidus};
 ghost use Rattle.spec.specs.Closing.{find_matching_paren};
 ghost use Rattle.spec.specs.Fractions.{grouped, rvert_from, after_lvert, after_brackets, barred, find_fraction_part_after};
 ghost use Rattle.text_symbols.specs.Places.{AheadTo};
@@ -13,24 +13,13 @@ ghost use Rattle.fraction_operands.specs.Places.{Place, FoundAhead};
 
 use fraction_operands::closed_after;
 use past::{past_arguments, past_braces, past_bracket, past_factorials, past_power, word_after};
-use text_search::Found;
-
-fn ends_with(s: &[u8], pattern: &[u8]) -> bool
-    ensures { result ≡ ends pattern.now s.now }
-{
-    let start = text::saturating_sub(s.len(), pattern.len());
-    text_search::starts_with(&s[start..], pattern)
-}
 
 // Behind the first `\rvert`, or where it began.
 fn rvert_from(s: &[u8], start: usize) -> usize
     requires { Place s.now start }
     ensures { AheadTo s.now start result (rvert_from (drop start s.now) (drop start s.now)) }
 {
-    let Found::At(k) = text_search::find(&s[start..], b"\\rvert") else {
-        return start;
-    };
-    start + k + 6
+    text_search::find(&s[start..], b"\\rvert").map_or(start, |k| start + k + 6)
 }
 
 // The jump, where the word from `start` to `word` ends in `\lvert`.
@@ -39,19 +28,17 @@ fn after_lvert(s: &[u8], start: usize, word: usize) -> usize
     requires start_le_word { start ≤ word }
     ensures { AheadTo s.now word result (after_lvert (until (drop start s.now) (drop word s.now)) (drop word s.now)) }
 {
-    if ends_with(&s[start..word], b"\\lvert") {
+    if s[start..word].ends_with(b"\\lvert") {
         return rvert_from(s, word);
     }
     word
 }
 
+// Whether the text has a solidus mark, which is the symbol 1.
 fn has_solidus(s: &[u8]) -> bool
     ensures { result ≡ any (λ x. eqb x solidus) s.now }
 {
-    let Found::At(k) = text_search::find(s, b"\x01") else {
-        return false;
-    };
-    true
+    s.contains(&1)
 }
 
 // Number 9: the jump of the denominator at `start` passes a solidus mark.
@@ -68,35 +55,31 @@ pub fn is_barred(s: &[u8], start: usize) -> bool
 }
 
 // The end of a denominator that begins at `start`, from behind its brackets.
-fn after_brackets(s: &[u8], start: usize, base: usize) -> Found
+fn after_brackets(s: &[u8], start: usize, base: usize) -> Option<usize>
     requires place { Place s.now base }
     requires start_le_base { start ≤ base }
     ensures { FoundAhead s.now start result (after_brackets (drop start s.now) (drop base s.now)) }
 {
     let raised = text_search::symbol(s, base) == b'^';
     let power = past_power(s, base);
-    let Found::At(end) = past_arguments(s, power, raised) else {
-        return Found::Nothing;
-    };
+    let end = past_arguments(s, power, raised)?;
     if end == start {
-        return Found::Nothing;
+        return None;
     }
-    Found::At(end)
+    Some(end)
 }
 
 // The end of a denominator in parentheses, from behind the first.
-fn grouped_after(s: &[u8], start: usize) -> Found
+fn grouped_after(s: &[u8], start: usize) -> Option<usize>
     requires { Place s.now start }
     ensures { FoundAhead s.now start result (grouped (find_matching_paren (drop start s.now))) }
 {
-    let Found::At(i) = closed_after(s, start, b'(', b')') else {
-        return Found::Nothing;
-    };
-    Found::At(past_power(s, past_factorials(s, i)))
+    let i = closed_after(s, start, b'(', b')')?;
+    Some(past_power(s, past_factorials(s, i)))
 }
 
 // The end of the denominator that begins at `start`.
-pub fn find_fraction_part_after(s: &[u8], start: usize) -> Found
+pub fn find_fraction_part_after(s: &[u8], start: usize) -> Option<usize>
     requires { Place s.now start }
     ensures { FoundAhead s.now start result (find_fraction_part_after (drop start s.now)) }
 {

@@ -5,7 +5,6 @@ ghost use Rattle.text_symbols.specs.Places.{AheadTo};
 ghost use Rattle.fraction_operands.specs.Places.{Place, FoundAhead};
 
 use fraction_operands::{is_exponent_symbol, is_in_operand, past_group};
-use text_search::Found;
 use text_symbols::Class;
 
 // `!`, any number of them.
@@ -48,6 +47,7 @@ pub fn past_braces(s: &[u8], start: usize) -> usize
     ensures { AheadTo s.now start result (braces 0 (drop start s.now)) }
 {
     let mut i = start;
+    // The step varies: the search goes on behind the group.
     while text_search::symbol(s, i) == b'{' {
         i = past_group(s, i + 1, b'{', b'}');
     }
@@ -65,18 +65,19 @@ pub fn past_bracket(s: &[u8], start: usize) -> usize
     start
 }
 
-// Arguments in parentheses, which only a power may have before them.
-pub fn past_arguments(s: &[u8], start: usize, raised: bool) -> Found
+// Arguments in parentheses, which only a power may have before them. `raised` is a fact of the text that the definition takes too, and a function
+// for each of its values would be no plainer.
+pub fn past_arguments(s: &[u8], start: usize, raised: bool) -> Option<usize>
     requires { Place s.now start }
     ensures { FoundAhead s.now start result (arguments raised (drop start s.now)) }
 {
     if text_search::symbol(s, start) == b'(' {
         if raised {
-            return Found::At(past_group(s, start + 1, b'(', b')'));
+            return Some(past_group(s, start + 1, b'(', b')'));
         }
-        return Found::Nothing;
+        return None;
     }
-    Found::At(start)
+    Some(start)
 }
 
 // An operand with no brackets.
@@ -84,15 +85,13 @@ pub fn word_after(s: &[u8], start: usize) -> usize
     requires { Place s.now start }
     ensures { AheadTo s.now start result (word_after 0 (drop start s.now)) }
 {
-    let mut i = start;
     let mut previous = 0;
-    while i < s.len() {
+    for i in start..s.len() {
         let b = s[i];
         if !is_in_operand(previous, b, text_search::symbol(s, i + 1)) {
             return i;
         }
         previous = b;
-        i += 1;
     }
-    i
+    s.len()
 }

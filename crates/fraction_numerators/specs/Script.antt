@@ -1,12 +1,13 @@
 -- The tally of the search for an unmatched parenthesis to the left: it counts one more than the definition. And texts in which no parenthesis opens a
 -- script. Assumes nothing.
+--     Scripting      the loop of the search has come to place i
 --     Scriptless     no place of the text is within a script
-use Rattle.std.specs.Prelude.{◌≡◌, Bool, not, ◌&&◌, ◌||◌, eqb, length, take}
+use Rattle.std.specs.Prelude.{◌≡◌, Bool, not, ◌&&◌, ◌||◌, eqb, length, get_or, take}
 use Rattle.std.proofs.Math.Path.{refl, ap}
-use Rattle.std.proofs.Common.{◌∙◌, sub-one}
+use Rattle.std.proofs.Common.{sym, ◌∙◌, subst, sub-one}
 use Rattle.std.proofs.Math.Bool.{true, false, and-false}
 use mathlib.Core.List.{List, [], ◌∷◌, reverse_aux}
-use Prim.Native.Nat.{ℕ, zero, suc, pred, ◌-◌, ◌≤◌, ◌<◌}
+use Prim.Native.Nat.{ℕ, zero, suc, pred, ◌+◌, ◌-◌, ◌≤◌, ◌<◌}
 use Prim.Native.Char.{code}
 use native.Mathlib.Omega.{arith}
 use Rattle.std.proofs.lemmas.Bool.{not-true}
@@ -14,7 +15,9 @@ use Rattle.spec.specs.Symbols.{bytes, is, script_sign, head, starts, contains}
 use Rattle.spec.specs.Closing.{Side, opens, closes, neither, side_of, depth_after}
 use Rattle.spec.specs.Fractions.{script_opener, is_inside_subscript_context}
 use Rattle.spec.specs.Laws.Booleans.{and_left, and_right, or-neither}
-use Rattle.text_symbols.specs.Places.{before}
+use Rattle.text_symbols.specs.Places.{before, before-step, before-none}
+use Rattle.text_closing.specs.Closing.{started, stepped, opener-kept, closer-kept, depth-stepped, depth-more}
+use Rattle.text_closing.specs.declared.Tally.{Tally}
 
 module _ (d x : ℕ) {p : List ℕ} (q : List ℕ) (some-open : 0 < d) (here : p ≡ x ∷ q) where
   -- the depth after the symbol
@@ -50,6 +53,55 @@ module _ (d x : ℕ) {p : List ℕ} (q : List ℕ) (some-open : 0 < d) (here : p
 pub script-end : (d : ℕ) {p : List ℕ} → p ≡ [] → is_inside_subscript_context d p ≡ false
 unfolding is_inside_subscript_context
 script-end d e = ap (is_inside_subscript_context d) e
+
+-- ---- the loop: the search has come to place i, and the symbols before it decide
+pub record Scripting (s : List ℕ) (pos : ℕ) (t : Tally) (i : ℕ) : Type 0 where
+  pub same-opener : t.opener ≡ code ")"
+  pub same-closer : t.closer ≡ code "("
+  pub some-open : 0 < t.depth
+  pub few-open : t.depth + i ≤ length s + 1
+  pub decides : is_inside_subscript_context 0 (before s pos) ≡ is_inside_subscript_context (t.depth - 1) (before s i)
+
+module _ {s : List ℕ} {pos i : ℕ} {t : Tally} (scripting : Scripting s pos t i) where
+  pub scripting-end : i ≤ 0 → false ≡ is_inside_subscript_context 0 (before s pos)
+  scripting-end h = sym (scripting.decides ∙ script-end (t.depth - 1) (before-none s i h))
+
+  -- the symbol before place i has been tallied
+  module _ (some : 0 < i) (within : i ≤ length s) {t' : Tally} (step : t' ≡ stepped t (get_or s (i - 1) 0)) where
+    here : before s i ≡ get_or s (i - 1) 0 ∷ before s (i - 1)
+    here = before-step s i some within
+
+    depth : t'.depth ≡ depth_after (side_of (eqb (get_or s (i - 1) 0) (code ")")) (eqb (get_or s (i - 1) 0) (code "("))) t.depth
+    depth = depth-stepped t (get_or s (i - 1) 0) scripting.same-opener scripting.same-closer step
+
+    module _ (unmatched : t'.depth ≡ 0) {b : Bool} (opener : b ≡ script_opener (before s (i - 1))) where
+      pub scripting-opens : b ≡ true → true ≡ is_inside_subscript_context 0 (before s pos)
+      scripting-opens e = sym (scripting.decides ∙ script-opens t.depth (get_or s (i - 1) 0) (before s (i - 1)) scripting.some-open here (sym depth ∙ unmatched) (sym opener ∙ e))
+
+      pub scripting-bare : b ≡ false → Scripting s pos (started (code ")") (code "(")) (i - 1)
+      scripting-bare e =
+          record {
+            same-opener = refl;
+            same-closer = refl;
+            some-open = omega arith;
+            few-open = omega arith;
+            decides = scripting.decides ∙ script-bare t.depth (get_or s (i - 1) 0) (before s (i - 1)) scripting.some-open here (sym depth ∙ unmatched) (sym opener ∙ e);
+          }
+
+    pub scripting-past : 0 < t'.depth → Scripting s pos t' (i - 1)
+    scripting-past deep =
+        let more = depth-more (code ")") (code "(") t.depth (get_or s (i - 1) 0) (before s (i - 1)) scripting.some-open in
+        let few = scripting.few-open in let same = depth in
+        record {
+          same-opener = opener-kept t (get_or s (i - 1) 0) scripting.same-opener scripting.same-closer step;
+          same-closer = closer-kept t (get_or s (i - 1) 0) scripting.same-opener scripting.same-closer step;
+          some-open = deep;
+          few-open = omega arith;
+          decides =
+              scripting.decides
+              ∙ script-past t.depth (get_or s (i - 1) 0) (before s (i - 1)) scripting.some-open here (subst (λ k. 0 < k) depth deep)
+              ∙ ap (λ k. is_inside_subscript_context (k - 1) (before s (i - 1))) (sym depth);
+        }
 
 -- ---- a text in which no parenthesis stands behind the sign of a script, seen from behind
 abbrev pub groupless : List ℕ → Bool

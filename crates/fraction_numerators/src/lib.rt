@@ -11,7 +11,6 @@ ghost use Rattle.fraction_operands.specs.Places.{Place, FoundBack};
 
 use fraction_operands::{before_group, closed_before, is_in_operand, is_name_symbol};
 pub use script::{has_script_group, is_inside_script};
-use text_search::Found;
 
 // The start of the name before a bracket, with its groups in braces.
 fn name_before(s: &[u8], end: usize) -> usize
@@ -19,6 +18,7 @@ fn name_before(s: &[u8], end: usize) -> usize
     ensures { BackTo s.now end result (name_before 0 (before s.now end)) }
 {
     let mut i = end;
+    // The step varies: behind a brace the search goes on before its group.
     while 0 < i {
         let b = s[i - 1];
         if !is_name_symbol(b) {
@@ -39,45 +39,37 @@ fn word_before(s: &[u8], last: usize) -> usize
     requires last_in_bounds { last < length s.now }
     ensures { BackTo s.now last result (word_before (get_or s.now last 0) (before s.now last)) }
 {
-    let mut i = last;
-    while 0 < i {
-        if !is_in_operand(s[i], s[i - 1], text_search::symbol_before(s, i - 1)) {
-            return i;
+    for i in (0..last).rev() {
+        if !is_in_operand(s[i + 1], s[i], text_search::symbol_before(s, i)) {
+            return i + 1;
         }
-        i -= 1;
     }
-    i
+    0
 }
 
 // The start of a group with the name before it, from the bracket at `last`.
-fn with_name(s: &[u8], last: usize, opener: u8, closer: u8) -> Found
+fn with_name(s: &[u8], last: usize, opener: u8, closer: u8) -> Option<usize>
     requires { Place s.now last }
     ensures { FoundBack s.now last result (with_name (close opener closer 0 (before s.now last))) }
 {
-    let Found::At(i) = closed_before(s, last, opener, closer) else {
-        return Found::Nothing;
-    };
-    Found::At(name_before(s, i))
+    let i = closed_before(s, last, opener, closer)?;
+    Some(name_before(s, i))
 }
 
 // The start of the numerator that ends at `end`.
-pub fn find_fraction_part_before(s: &[u8], end: usize) -> Found
+pub fn find_fraction_part_before(s: &[u8], end: usize) -> Option<usize>
     requires { Place s.now end }
     ensures { FoundBack s.now end result (find_fraction_part_before (before s.now end)) }
 {
-    if end == 0 {
-        return Found::Nothing;
-    }
-    let last = end - 1;
+    let last = end.checked_sub(1)?;
     let b = s[last];
-    if b == b'}' {
-        return with_name(s, last, b'}', b'{');
-    }
-    if b == b')' {
-        return with_name(s, last, b')', b'(');
-    }
-    if b == b']' {
-        return with_name(s, last, b']', b'[');
-    }
-    Found::At(word_before(s, last))
+    let closer = match b {
+        b'}' => b'{',
+        b')' => b'(',
+        b']' => b'[',
+        _ => {
+            return Some(word_before(s, last));
+        }
+    };
+    with_name(s, last, b, closer)
 }

@@ -20,42 +20,39 @@ fn opens_script(s: &[u8], i: usize) -> bool
         | ((near == b'(') & text_symbols::is_script_sign(text_search::symbol_before(s, i - 1)))
 }
 
-// Whether `pos` is within the parentheses of a script. An unmatched parenthesis that opens none begins a fresh tally.
+// Whether `pos` is within the parentheses of a script. An unmatched parenthesis that opens none begins a fresh tally, so this search
+// goes on where those of `text_closing` end, and is none of them.
 pub fn is_inside_subscript_context(s: &[u8], pos: usize) -> bool
     requires { Place s.now pos }
     ensures { result ≡ is_inside_subscript_context 0 (before s.now pos) }
 {
     let mut tally = Tally::new(b')', b'(');
-    let mut i = pos;
-    while 0 < i {
-        i -= 1;
+    for i in (0..pos).rev() {
         tally = tally.step(s[i]);
         if tally.depth == 0 {
             if opens_script(s, i) {
                 return true;
             }
             tally = Tally::new(b')', b'(');
-            continue;
         }
     }
     false
 }
 
-// Whether some parenthesis of the text opens a script. Where none does, no place is within one.
+// Whether some parenthesis of the text opens a script. Where none does, no place is within one. `sizing` looks for two other patterns so: a common
+// function would only pass the patterns on.
 pub fn has_script_group(s: &[u8]) -> bool
     ensures { result ≡ false → Scriptless s.now }
 {
     text_search::contains(s, b"_(") | text_search::contains(s, b"^(")
 }
 
-// The same as `is_inside_subscript_context`, and quicker in a text that has no script group.
+// The same as `is_inside_subscript_context`, and quicker in a text that has no script group. `scripts` is what a round has found out about its text:
+// as a closure it would be no plainer.
 pub fn is_inside_script(s: &[u8], pos: usize, scripts: bool) -> bool
     requires place { Place s.now pos }
     requires scriptless { scripts ≡ false → Scriptless s.now }
     ensures { result ≡ is_inside_subscript_context 0 (before s.now pos) }
 {
-    if !scripts {
-        return false;
-    }
-    is_inside_subscript_context(s, pos)
+    scripts && is_inside_subscript_context(s, pos)
 }

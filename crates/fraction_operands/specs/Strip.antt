@@ -12,8 +12,8 @@ use Rattle.spec.specs.Symbols.{is, head, past, blank, drop_while, trim}
 use Rattle.spec.specs.Closing.{level}
 use Rattle.spec.specs.Fractions.{inner_or, strip_trimmed, strip_outer_parens}
 use Rattle.spec.specs.Laws.Symbols.{head-drop, past-drop, drop_while-short}
-use Rattle.text_symbols.specs.Parts.{part, rest_of, length_part, sub_part}
-use Rattle.text_symbols.specs.Trim.{Narrowed, spanned}
+use Rattle.text_symbols.specs.Parts.{part, length_part, sub_part}
+use Rattle.text_symbols.specs.Trim.{Narrowed}
 use Rattle.text_symbols.specs.declared.Span.{Span}
 use Rattle.text_symbols.specs.Places.{before, before-step, before-all}
 
@@ -100,20 +100,17 @@ strip-shorter t =
     (either t)
 
 -- ---- the trimmed text's place
-module _ {s : List ℕ} {r : Span} (trimmed : Narrowed s (whole_span s) r (trim (part 0 (length s - 0) s))) where
-  pub trimmed-text : spanned r s ≡ trim s
-  trimmed-text = trimmed.text ∙ ap trim (rest_of 0 s)
-
+module _ {s : List ℕ} {r : Span} (trimmed : Narrowed s (whole_span s) r (trim s)) where
   trimmed-length : length (trim s) ≡ r.end - r.start
   trimmed-length =
       let o = trimmed.order in let t = trimmed.to in
-      sym (ap length trimmed-text) ∙ length_part r.start (r.end - r.start) s (omega arith)
+      sym (ap length trimmed.text) ∙ length_part r.start (r.end - r.start) s (omega arith)
 
   pub span-whole : r.end - r.start ≤ length (strip_outer_parens s) → Narrowed s (whole_span s) r (strip_outer_parens s)
   unfolding strip_outer_parens
   span-whole h =
       let n = trimmed-length in
-      record { from = trimmed.from; order = trimmed.order; to = trimmed.to; text = trimmed-text ∙ sym (operand-whole (trim s) (omega arith)) }
+      record { from = trimmed.from; order = trimmed.order; to = trimmed.to; text = trimmed.text ∙ sym (operand-whole (trim s) (omega arith)) }
 
   pub span-inner : length (strip_outer_parens s) < r.end - r.start → Narrowed s (whole_span s) (record { start = r.start + 1; end = r.end - 1 }) (strip_outer_parens s)
   unfolding strip_outer_parens
@@ -130,7 +127,7 @@ module _ {s : List ℕ} {r : Span} (trimmed : Narrowed s (whole_span s) r (trim 
         text =
             ap (λ k. part (r.start + 1) k s) m
             ∙ sub_part r.start (r.end - r.start) 1 (length (trim s) - 1 - 1) s (omega arith)
-            ∙ ap (part 1 (length (trim s) - 1 - 1)) trimmed-text ∙ sym inner.1;
+            ∙ ap (part 1 (length (trim s) - 1 - 1)) trimmed.text ∙ sym inner.1;
       }
 
 -- ---- an operand is no longer than its text

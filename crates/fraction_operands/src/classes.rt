@@ -1,4 +1,5 @@
-// Classes of symbols that operands are made of. Each is one expression with no branch.
+// Classes of symbols that operands are made of. Each is one expression with no branch, and a common function that is given the further symbols
+// would be no plainer.
 ghost use Rattle.std.specs.Prelude.{◌≡◌, ◌||◌};
 ghost use Rattle.spec.specs.Symbols.{is, alnum};
 ghost use Rattle.spec.specs.Fractions.{operand_symbol, in_operand, name_symbol};

@@ -1,6 +1,7 @@
 // strip_outer_parens: an operand without the blanks around it and without its outer parentheses.
 ghost use Rattle.std.specs.Prelude.{◌≡◌, ◌≤◌, length};
 ghost use Rattle.spec.specs.Result.{most_symbols};
+ghost use Rattle.spec.specs.Symbols.{trim};
 ghost use Rattle.spec.specs.Fractions.{strip_trimmed, strip_outer_parens};
 ghost use Rattle.text_symbols.specs.Trim.{Narrowed};
 ghost use Rattle.fraction_operands.specs.Strip.{whole_span};
@@ -12,21 +13,24 @@ fn strip_trimmed(s: &[u8]) -> &[u8]
     requires { length s.now ≤ most_symbols }
     ensures { result.now ≡ strip_trimmed s.now }
 {
-    let n = s.len();
-    if n < 2 {
+    let [b'(', inner @ .., b')'] = s else {
         return s;
-    }
-    if s[0] != b'(' {
-        return s;
-    }
-    if s[n - 1] != b')' {
-        return s;
-    }
-    let inner = &s[1..n - 1];
+    };
     if text_closing::is_level(inner, b'(', b')') {
         return inner;
     }
     s
+}
+
+// The text without the blanks around it.
+fn trimmed(s: &[u8]) -> Span
+    ensures { Narrowed s.now (whole_span s.now) result (trim s.now) }
+{
+    let whole = Span {
+        start: 0,
+        end: s.len(),
+    };
+    text_symbols::trim(s, whole, Class::Blank)
 }
 
 // The operand: a part of the text that it was given.
@@ -34,9 +38,7 @@ pub fn strip_outer_parens(s: &[u8]) -> &[u8]
     requires { length s.now ≤ most_symbols }
     ensures { result.now ≡ strip_outer_parens s.now }
 {
-    let span = text_symbols::trim(s, all(s), Class::Blank);
-    let start = span.start;
-    let end = span.end;
+    let Span { start, end } = trimmed(s);
     strip_trimmed(&s[start..end])
 }
 
@@ -46,7 +48,7 @@ pub fn operand_span(s: &[u8]) -> Span
     ensures { Narrowed s.now (whole_span s.now) result (strip_outer_parens s.now) }
 {
     let n = strip_outer_parens(s).len();
-    let span = text_symbols::trim(s, all(s), Class::Blank);
+    let span = trimmed(s);
     if n < span.end - span.start {
         return Span {
             start: span.start + 1,
@@ -54,13 +56,4 @@ pub fn operand_span(s: &[u8]) -> Span
         };
     }
     span
-}
-
-fn all(s: &[u8]) -> Span
-    ensures { result ≡ whole_span s.now }
-{
-    Span {
-        start: 0,
-        end: s.len(),
-    }
 }

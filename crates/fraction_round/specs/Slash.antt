@@ -3,6 +3,7 @@
 --                 and the marks keep what the round has done then
 --     Ordered     the operands lie on either side of it
 --     Numerated   it stands in no script, and its numerator lies from q to b
+--     Numerator   the numerator's span says so, or nothing where there is none
 -- Assumes nothing.
 use Rattle.std.specs.Prelude.{◌≡◌, Bool, true, false, ℕ, suc, ◌+◌, ◌-◌, ◌≤◌, ◌<◌, length, take, drop}
 use Rattle.std.proofs.Common.{sym, ap, ◌∙◌, subst, arith, length-take, length-drop}
@@ -30,15 +31,22 @@ use Rattle.spec.specs.Laws.Symbols.{reverse-drop}
 use Rattle.text_symbols.specs.Parts.{part, drop-take}
 use Rattle.text_symbols.specs.Trim.{spanned}
 use Rattle.text_symbols.specs.Places.{before, length_before, AheadTo, BackTo}
-use Rattle.fraction_operands.specs.Places.{until-ahead}
+use Rattle.text_symbols.specs.declared.Span.{Span}
+use Rattle.text_search.specs.Search.{Found}
+use Rattle.fraction_operands.specs.Places.{FoundBack, behind-nothing, until-ahead}
 use Rattle.fraction_left.specs.Left.{Kept, rewritten_to}
 use Rattle.fraction_round.specs.declared.Operands.{Operands}
-use Rattle.fraction_round.specs.declared.Slash.{Slash}
-use Rattle.fraction_round.specs.declared.Slash.TheVariants.{Converts, Stays, Barred}
+use Rattle.fraction_round.specs.declared.Barred.{Barred}
+use Rattle.fraction_left.specs.declared.Marks.{Marks}
+use Rattle.std.specs.Prelude.{Option as Maybe, Some, None, Result as Either, Ok, Err}
 
 -- the fraction of two operands of a text
 abbrev pub fraction : Operands → List ℕ → List ℕ
 fraction f s = frac (strip_outer_parens (spanned f.num s)) (strip_outer_parens (spanned f.den s))
+
+-- what the code says of a slash: its operands, nothing where it stays, or number 9
+abbrev pub Slash : Type 0
+Slash = Either (Maybe Operands) Barred
 
 -- with o written so far
 abbrev pub fraction_step : List ℕ → ℕ → Done → List ℕ → Operands → Step
@@ -50,9 +58,9 @@ fraction_step s i done o f =
     }
 
 abbrev pub decided : List ℕ → ℕ → Done → List ℕ → Slash → Option Step
-decided s i done o (Converts f) = some (fraction_step s i done o f)
-decided s i done o Stays = some (copied done (code "/") o)
-decided s i done o Barred = none
+decided s i done o (Ok (Some f)) = some (fraction_step s i done o f)
+decided s i done o (Ok None) = some (copied done (code "/") o)
+decided s i done o (Err b) = none
 
 pub record Ordered (n i : ℕ) (f : Operands) : Type 0 where
   pub numerator : f.num.start ≤ f.num.end
@@ -62,14 +70,14 @@ pub record Ordered (n i : ℕ) (f : Operands) : Type 0 where
   pub within : f.den.end ≤ n
 
 abbrev pub SlashFits : ℕ → ℕ → Slash → Type 0
-SlashFits n i (Converts f) = Ordered n i f
-SlashFits n i Stays = Unit {0}
-SlashFits n i Barred = Unit {0}
+SlashFits n i (Ok (Some f)) = Ordered n i f
+SlashFits n i (Ok None) = Unit {0}
+SlashFits n i (Err b) = Unit {0}
 
 -- `next` is what the round has done then, but for the rewriting of this slash
-pub record Slashed (s marks : List ℕ) (rewritten i : ℕ) (done : Done) (r : Slash) : Type 0 where
+pub record Slashed (s : List ℕ) (marks : Marks) (i : ℕ) (done : Done) (r : Slash) : Type 0 where
   pub next : Done
-  pub kept : Kept marks rewritten (length s) next
+  pub kept : Kept marks (length s) next
   pub decides : (o : List ℕ) → slash done (before s i) o (drop (i + 1) s) ≡ decided s i next o r
   pub fits : SlashFits (length s) i r
 
@@ -94,46 +102,67 @@ pub record Numerated (s : List ℕ) (i b q : ℕ) : Type 0 where
   pub start : q ≤ b
   pub found : find_fraction_part_before (before s b) ≡ some (before s q)
 
-module _ (s : List ℕ) (i : ℕ) {marks : List ℕ} {rewritten : ℕ} {done : Done} (kept : Kept marks rewritten (length s) done) where
-  pub slash-inside : is_inside_subscript_context 0 (before s i) ≡ true → Slashed s marks rewritten i done Stays
+-- it stands in a script, or has no numerator
+abbrev pub Bare : List ℕ → ℕ → Type 0
+Bare s i = (done : Done) (o : List ℕ) → slash done (before s i) o (drop (i + 1) s) ≡ some (copied done (code "/") o)
+
+abbrev pub NumeratorIs : List ℕ → ℕ → Maybe Span → Type 0
+NumeratorIs s i (Some p) = Numerated s i p.end p.start
+NumeratorIs s i None = Bare s i
+
+pub record Numerator (s : List ℕ) (i : ℕ) (r : Maybe Span) : Type 0 where
+  pub told : NumeratorIs s i r
+
+module _ (s : List ℕ) (i : ℕ) {t : Bool} (script : t ≡ is_inside_subscript_context 0 (before s i)) where
+  pub numerator-inside : t ≡ true → Numerator s i None
   unfolding slash
-  slash-inside e = record { next = done; kept = kept; decides = λ o. rw (e, slash); fits = tt }
+  numerator-inside e = let inside = sym script ∙ e in record { told = λ done o. rw (inside, slash) }
 
-  module _ (outside : is_inside_subscript_context 0 (before s i) ≡ false) {b : ℕ} (over : BackTo s i b (trim_start (before s i))) where
-    searched : (o : List ℕ) {q : Option (List ℕ)} → find_fraction_part_before (before s b) ≡ q → slash done (before s i) o (drop (i + 1) s) ≡ with_numerator done (before s i) o (drop (i + 1) s) q
+  module _ (e : t ≡ false) {b : ℕ} (over : BackTo s i b (trim_start (before s i))) {r : Found} (num : FoundBack s b r (find_fraction_part_before (before s b))) where
+    outside : is_inside_subscript_context 0 (before s i) ≡ false
+    outside = sym script ∙ e
+
+    pub numerator-nowhere : r ≡ None → Numerator s i None
     unfolding slash
-    searched o e = rw (outside, slash) (ap (with_numerator done (before s i) o (drop (i + 1) s)) (ap find_fraction_part_before (sym over.left) ∙ e))
+    numerator-nowhere f =
+        let nothing : find_fraction_part_before (trim_start (before s i)) ≡ none = ap find_fraction_part_before (sym over.left) ∙ behind-nothing num f in
+        record { told = λ done o. rw (outside, nothing, slash) }
 
-    pub slash-bare : find_fraction_part_before (before s b) ≡ none → Slashed s marks rewritten i done Stays
-    slash-bare e = record { next = done; kept = kept; decides = λ o. searched o e; fits = tt }
+pub numerated : {s : List ℕ} {i : ℕ} {r : Maybe Span} {p : Span} → Numerator s i r → r ≡ Some p → Numerated s i p.end p.start
+numerated {s} {i} n e = subst (NumeratorIs s i) e n.told
 
+module _ (s : List ℕ) (i : ℕ) {marks : Marks} {done : Done} (kept : Kept marks (length s) done) where
   module _ {b q : ℕ} (num : Numerated s i b q) where
-    pub slash-left : is_left done (before s q) ≡ true → {marks' : List ℕ} → Kept marks' rewritten (length s) (leaving done (before s i)) → Slashed s marks' rewritten i done Stays
-    slash-left e marked = record { next = leaving done (before s i); kept = marked; decides = λ o. searched num.outside num.over o num.found ∙ rw (e, with_numerator); fits = tt }
+    searched : (o : List ℕ) → slash done (before s i) o (drop (i + 1) s) ≡ with_numerator done (before s i) o (drop (i + 1) s) (some (before s q))
+    unfolding slash
+    searched o = let outside = num.outside in rw (outside, slash) (ap (with_numerator done (before s i) o (drop (i + 1) s)) (ap find_fraction_part_before (sym num.over.left) ∙ num.found))
+
+    pub slash-left : is_left done (before s q) ≡ true → {marks' : Marks} → Kept marks' (length s) (leaving done (before s i)) → Slashed s marks' i done (Ok None)
+    slash-left e marked = record { next = leaving done (before s i); kept = marked; decides = λ o. searched o ∙ rw (e, with_numerator); fits = tt }
 
     module _ (due : is_left done (before s q) ≡ false) {a : ℕ} (under : AheadTo s (i + 1) a (trim_start (drop (i + 1) s))) where
-      numerated : (o : List ℕ) {t : Bool} → barred (drop a s) ≡ t
+      free-or : (o : List ℕ) {t : Bool} → barred (drop a s) ≡ t
           → slash done (before s i) o (drop (i + 1) s)
           ≡ elim t [ true ↦ none | false ↦ some (with_denominator done (before s i) o (drop (i + 1) s) (before s q) (find_fraction_part_after (trim_start (drop (i + 1) s)))) ]
-      numerated o e =
-          searched num.outside num.over o num.found
+      free-or o e =
+          searched o
           ∙ rw (due, with_numerator) (ap (λ t. elim t [ true ↦ none | false ↦ some (with_denominator done (before s i) o (drop (i + 1) s) (before s q) (find_fraction_part_after (trim_start (drop (i + 1) s)))) ])
           (ap barred (sym under.left) ∙ e))
 
-      pub slash-barred : barred (drop a s) ≡ true → Slashed s marks rewritten i done Barred
-      slash-barred e = record { next = done; kept = kept; decides = λ o. numerated o e; fits = tt }
+      pub slash-barred : barred (drop a s) ≡ true → (b : Barred) → Slashed s marks i done (Err b)
+      slash-barred e b = record { next = done; kept = kept; decides = λ o. free-or o e; fits = tt }
 
       module _ (free : barred (drop a s) ≡ false) where
         divided : (o : List ℕ) {d : Option (List ℕ)} → find_fraction_part_after (drop a s) ≡ d
             → slash done (before s i) o (drop (i + 1) s) ≡ some (with_denominator done (before s i) o (drop (i + 1) s) (before s q) d)
-        divided o e = numerated o free ∙ ap (λ d. some (with_denominator done (before s i) o (drop (i + 1) s) (before s q) d)) (ap find_fraction_part_after (sym under.left) ∙ e)
+        divided o e = free-or o free ∙ ap (λ d. some (with_denominator done (before s i) o (drop (i + 1) s) (before s q) d)) (ap find_fraction_part_after (sym under.left) ∙ e)
 
-        pub slash-alone : find_fraction_part_after (drop a s) ≡ none → Slashed s marks rewritten i done Stays
+        pub slash-alone : find_fraction_part_after (drop a s) ≡ none → Slashed s marks i done (Ok None)
         slash-alone e = record { next = done; kept = kept; decides = λ o. divided o e; fits = tt }
 
         pub slash-converts :
             {r : ℕ} → i < length s → a ≤ r → r ≤ length s → find_fraction_part_after (drop a s) ≡ some (drop r s)
-            → Slashed s marks rewritten i done (Converts (record { num = record { start = q; end = b }; den = record { start = a; end = r } }))
+            → Slashed s marks i done (Ok (Some (record { num = record { start = q; end = b }; den = record { start = a; end = r } })))
         slash-converts {r} inside end within e =
             record {
               next = done;
@@ -158,5 +187,5 @@ module _ (s : List ℕ) (i : ℕ) {marks : List ℕ} {rewritten : ℕ} {done : D
                 drops
                 rewritten
 
-pub slashed-ordered : {s marks : List ℕ} {rewritten i : ℕ} {done : Done} {r : Slash} {f : Operands} → Slashed s marks rewritten i done r → r ≡ Converts f → Ordered (length s) i f
+pub slashed-ordered : {s : List ℕ} {marks : Marks} {i : ℕ} {done : Done} {r : Slash} {f : Operands} → Slashed s marks i done r → r ≡ Ok (Some f) → Ordered (length s) i f
 slashed-ordered {s} {i = i} d e = subst (SlashFits (length s) i) e d.fits

@@ -5,7 +5,11 @@ mod regular;
 mod slashes;
 mod writing;
 
+ghost use Rattle.std.specs.Prelude.{◌≡◌};
+ghost use Rattle.text.specs.declared.Refusal.TheVariants.{BarredSolidus};
+
 pub use regular::convert_regular_fractions;
+use text::Refusal;
 use text_symbols::Span;
 
 // The numerator and the denominator of a slash.
@@ -15,17 +19,14 @@ pub struct Operands {
     pub den: Span,
 }
 
-// What becomes of a slash. Number 9 is `Barred`.
+// Number 9, for which a round ends early. In the round after the last that may change the text it is no number 9.
 #[derive(Clone, Copy)]
-pub enum Slash {
-    Converts(Operands),
-    Stays,
-    Barred,
-}
+pub struct Barred;
 
-// The length of the text that a round has written, or number 9.
-#[derive(Clone, Copy)]
-pub enum Outcome {
-    Done(usize),
-    Barred,
+impl From<Barred> for Refusal {
+    ghost from_gives = { λ _ why. why ≡ BarredSolidus };
+
+    fn from(_barred: Barred) -> Refusal {
+        Refusal::BarredSolidus
+    }
 }

@@ -5,52 +5,46 @@
 ghost use Rattle.std.specs.Prelude.{◌≤◌};
 ghost use Rattle.spec.specs.Result.{most_symbols};
 ghost use Rattle.text_symbols.specs.Parts.{part};
-ghost use Rattle.text.specs.Writer.{Regions};
+ghost use Rattle.text.specs.Writer.{Regions, started};
 ghost use Rattle.fraction_round.specs.Turn.{Rounded};
 
+use super::Barred;
 use super::slashes::slash_at;
 use super::writing::put_converted;
-use super::{Outcome, Slash};
-use fraction_left::{Marks, unmark};
-use text::CAP;
+use fraction_left::Marks;
+use text::{TextPlace, Writer};
 
-// Writes the `n` symbols at `from` to `to`, with their fractions. Whatever the marks hold, they are cleared first.
+// Writes the text at `source` to the region at `to`, with its fractions, and answers the new length. Whatever the marks hold, they are cleared first.
 pub fn convert_regular_fractions(
     work: &mut [u8],
-    from: usize,
-    n: usize,
+    source: TextPlace,
     to: usize,
     marks: &mut Marks,
-) -> Outcome
-    requires regions { Regions work.old from n to most_symbols 0 }
-    requires n_le_most_symbols { n ≤ most_symbols }
-    ensures { Rounded (part from n work.old) work.old work.new to result }
+) -> Result<usize, Barred>
+    requires regions { Regions work.old source.at source.n (started to) }
+    requires n_le_most_symbols { source.n ≤ most_symbols }
+    ensures { Rounded (part source.at source.n work.old) work.old work.new to result }
 {
+    let TextPlace { at: from, n } = source;
     let end = from + n;
     let scripts = fraction_numerators::has_script_group(&work[from..end]);
-    unmark(marks, n);
-    let mut rewritten = 0;
-    let mut count = 0;
+    marks.clear(n);
+    let mut out = Writer::new(to);
     let mut i = 0;
+    // The step varies: with a slash that converts, the round goes on behind the denominator. And it drops symbols from the end of what was
+    // written, so it is not the sweep of the other stages.
     while i < n {
         let b = work[from + i];
         if b == b'/' {
-            let slash = slash_at(&work[from..end], i, scripts, rewritten, marks);
-            match slash {
-                Slash::Converts(f) => {
-                    count = put_converted(work, from, n, to, count, i, f);
-                    i = f.den.end;
-                    rewritten = i;
-                    continue;
-                }
-                Slash::Barred => {
-                    return Outcome::Barred;
-                }
-                Slash::Stays => {}
+            if let Some(f) = slash_at(&work[from..end], i, scripts, marks)? {
+                out = put_converted(work, source, out, i, f);
+                i = f.den.end;
+                marks.rewrite(i);
+                continue;
             }
         }
-        count = text::put(work, to, CAP, count, b);
+        out = out.put(work, b);
         i += 1;
     }
-    Outcome::Done(count)
+    Ok(out.count)
 }

@@ -4,41 +4,53 @@ ghost use Rattle.spec.specs.Fractions.{Done};
 ghost use Rattle.fraction_operands.specs.Places.{Place};
 ghost use Rattle.fraction_numerators.specs.Script.{Scriptless};
 ghost use Rattle.fraction_left.specs.Left.{Kept};
-ghost use Rattle.fraction_round.specs.Slash.{Slashed};
+ghost use Rattle.fraction_round.specs.Slash.{Numerator, Slashed};
 
-use super::{Operands, Slash};
-use fraction_left::{Marks, is_left, mark};
-use text_search::Found;
+use super::{Barred, Operands};
+use fraction_left::Marks;
 use text_symbols::{Class, Span};
 
-// The slash at `i`, in a round that rewrote text last up to `rewritten` and left the slashes that are marked. If it is left too,
-// it gets its mark, and stays. `scripts` says whether the text may have a script group.
-pub fn slash_at(s: &[u8], i: usize, scripts: bool, rewritten: usize, marks: &mut Marks) -> Slash
+// The numerator of the slash at `i`, where it stands in no script and has one. `scripts` says whether the text may have a script group.
+fn numerator_of(s: &[u8], i: usize, scripts: bool) -> Option<Span>
+    requires place { Place s.now i }
+    requires scriptless { scripts ≡ false → Scriptless s.now }
+    ensures { Numerator s.now i result }
+{
+    if fraction_numerators::is_inside_script(s, i, scripts) {
+        return None;
+    }
+    let end = text_symbols::run_start(s, i, Class::Blank);
+    let start = fraction_numerators::find_fraction_part_before(s, end)?;
+    Some(Span { start, end })
+}
+
+// The operands of the slash at `i`, or nothing where it stays, in a round that has done what the marks say. If the slash is left, it gets its mark, and
+// stays.
+pub fn slash_at(
+    s: &[u8],
+    i: usize,
+    scripts: bool,
+    marks: &mut Marks,
+) -> Result<Option<Operands>, Barred>
     requires place { Place s.now i }
     requires i_in_bounds { i < length s.now }
     requires scriptless { scripts ≡ false → Scriptless s.now }
-    ensures { (done : Done) → Kept marks.old rewritten (length s.now) done → Slashed s.now marks.new rewritten i done result }
+    ensures { (done : Done) → Kept marks.old (length s.now) done → Slashed s.now marks.new i done result }
 {
-    if fraction_numerators::is_inside_script(s, i, scripts) {
-        return Slash::Stays;
-    }
-    let over = text_symbols::run_start(s, i, Class::Blank);
-    let Found::At(start) = fraction_numerators::find_fraction_part_before(s, over) else {
-        return Slash::Stays;
+    let Some(num) = numerator_of(s, i, scripts) else {
+        return Ok(None);
     };
-    if is_left(s, start, rewritten, marks) {
-        mark(marks, i);
-        return Slash::Stays;
+    if marks.is_left(s, num.start) {
+        marks.mark(i);
+        return Ok(None);
     }
-    let under = text_symbols::run_end(s, i + 1, Class::Blank);
-    if fraction_denominators::is_barred(s, under) {
-        return Slash::Barred;
+    let start = text_symbols::run_end(s, i + 1, Class::Blank);
+    if fraction_denominators::is_barred(s, start) {
+        return Err(Barred);
     }
-    let Found::At(end) = fraction_denominators::find_fraction_part_after(s, under) else {
-        return Slash::Stays;
+    let Some(end) = fraction_denominators::find_fraction_part_after(s, start) else {
+        return Ok(None);
     };
-    Slash::Converts(Operands {
-        num: Span { start, end: over },
-        den: Span { start: under, end },
-    })
+    let den = Span { start, end };
+    Ok(Some(Operands { num, den }))
 }

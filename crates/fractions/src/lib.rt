@@ -1,93 +1,65 @@
 // Fractions: rounds until nothing changes, with numbers 5, 7 and 9. The text changes sides with each round.
 #![tactic(auto)]
 
+ghost use Rattle.std.specs.Prelude.{Ok};
 ghost use Rattle.spec.specs.Fractions.{convert_fractions, settle as settled};
 ghost use Rattle.text.specs.Stage.{Ready, Staged};
-ghost use Rattle.text.specs.declared.Progress.TheVariants.{Text};
 ghost use Rattle.fractions.specs.Settle.{Stepped};
 
 use fraction_left::Marks;
-use fraction_round::{Outcome, convert_regular_fractions};
-use text::{CAP, Progress, Refusal};
-use text_search::Found;
+use fraction_round::{Barred, convert_regular_fractions};
+use text::{CAP, Due, Progress, Refusal, TextPlace, Writer};
 
 // So many rounds may change the text.
 const ROUNDS: usize = 64;
 
-// What a round makes of a text: its new length, where it changes.
-#[derive(Clone, Copy)]
-pub enum Round {
-    Unchanged,
-    Changed(usize),
-    Barred,
-}
-
-// A round from one region to the other.
-fn next_round(work: &mut [u8], from: usize, n: usize, marks: &mut Marks) -> Round
-    requires { Ready work.old (Text from n) }
-    ensures { Stepped work.old work.new from n result }
+// A round from one region to the other. It answers the text's new length, where it changes the text.
+fn next_round(work: &mut [u8], text: TextPlace, marks: &mut Marks) -> Result<Option<usize>, Barred>
+    requires { Ready work.old (Ok text) }
+    ensures { Stepped work.old work.new text result }
 {
+    let TextPlace { at: from, n } = text;
     let to = CAP - from;
-    let Outcome::Done(count) = convert_regular_fractions(work, from, n, to, marks) else {
-        return Round::Barred;
-    };
+    let count = convert_regular_fractions(work, text, to, marks)?;
     if count != n {
-        return Round::Changed(count);
+        return Ok(Some(count));
     }
-    let end = from + n;
-    let to_end = to + n;
-    if text_search::is_same(&work[to..to_end], &work[from..end]) {
-        return Round::Unchanged;
+    if work[to..to + n] == work[from..from + n] {
+        return Ok(None);
     }
-    Round::Changed(count)
+    Ok(Some(count))
 }
 
-// The round after the last that may change the text: it only says whether it would.
-fn last_round(work: &mut [u8], from: usize, n: usize, marks: &mut Marks) -> Progress
-    requires { Ready work.old (Text from n) }
-    ensures { Staged work.old work.new (Text from n) result (settled 0) }
+// The round after the last that may change the text: it only says whether it would. Where it would meet number 9 it is number 7 too.
+fn last_round(work: &mut [u8], text: TextPlace, marks: &mut Marks) -> Progress
+    requires { Ready work.old (Ok text) }
+    ensures { Staged work.old work.new (Ok text) result (settled 0) }
 {
-    let round = next_round(work, from, n, marks);
-    match round {
-        Round::Unchanged => {
-            return Progress::Text(from, n);
-        }
-        Round::Changed(count) => {
-            return Progress::Refused(Refusal::Unsettled);
-        }
-        Round::Barred => {
-            return Progress::Refused(Refusal::Unsettled);
-        }
+    match next_round(work, text, marks) {
+        Ok(None) => Ok(text),
+        Ok(Some(_)) => Err(Refusal::Unsettled),
+        Err(Barred) => Err(Refusal::Unsettled),
     }
 }
 
 // The rounds. They share the marks, of which each clears as many as its text has symbols.
-fn settle(work: &mut [u8], from: usize, n: usize) -> Progress
-    requires { Ready work.old (Text from n) }
-    ensures { Staged work.old work.new (Text from n) result convert_fractions }
+fn settle(work: &mut [u8], first: TextPlace) -> Progress
+    requires { Ready work.old (Ok first) }
+    ensures { Staged work.old work.new (Ok first) result convert_fractions }
 {
-    let mut marks = [0; CAP];
-    let mut at = from;
-    let mut len = n;
+    let mut marks = Marks::new();
+    let mut text = first;
     for k in 0..ROUNDS {
-        let round = next_round(work, at, len, &mut marks);
-        match round {
-            Round::Unchanged => {
-                return Progress::Text(at, len);
-            }
-            Round::Barred => {
-                return Progress::Refused(Refusal::BarredSolidus);
-            }
-            Round::Changed(count) => {
-                if CAP < count {
-                    return Progress::Refused(Refusal::Overgrown);
-                }
-                at = CAP - at;
-                len = count;
-            }
-        }
+        let Some(count) = next_round(work, text, &mut marks)? else {
+            return Ok(text);
+        };
+        let out = Writer {
+            count,
+            ..Writer::new(CAP - text.at)
+        };
+        text = out.finished()?;
     }
-    last_round(work, at, len, &mut marks)
+    last_round(work, text, &mut marks)
 }
 
 // The stage. A text with no slash is left as it is.
@@ -95,12 +67,8 @@ pub fn convert_fractions(work: &mut [u8], progress: Progress) -> Progress
     requires { Ready work.old progress }
     ensures { Staged work.old work.new progress result convert_fractions }
 {
-    let Progress::Text(from, n) = progress else {
+    let Some(Due { source, .. }) = text::due_for(work, progress, b"/") else {
         return progress;
     };
-    let end = from + n;
-    let Found::At(k) = text_search::find(&work[from..end], b"/") else {
-        return progress;
-    };
-    settle(work, from, n)
+    settle(work, source)
 }

@@ -16,10 +16,10 @@ use Rattle.spec.specs.Pipeline.{least_work}
 use Rattle.text_search.specs.Half.{half_work}
 use Rattle.spec.specs.Held.{filled}
 use Rattle.text_symbols.specs.Parts.{part, length_part, get_d_part}
-use Rattle.text.specs.Writer.{Room, Appended, Apart, appended-none, appended-more, appended-long, appended-part, puts-outside}
+use Rattle.text.specs.Writer.{Appended, Apart, appended-none, appended-more, appended-part, puts-outside}
 use Rattle.held_laws.specs.Marks.{count, block_at}
 use Rattle.held_laws.specs.InFull.{returned, filled-returned}
-use Rattle.held_blocks.specs.Filing.{blocks_at, blocks_room, places_at, places_room}
+use Rattle.held_blocks.specs.Filing.{text_from, blocks_at, blocks_room, places_at, places_room}
 
 -- a number of two bytes
 abbrev pub number_at : List ℕ → ℕ → ℕ
@@ -47,7 +47,7 @@ pub record Back (w : List ℕ) (from n to mark first : ℕ) : Type 0 where
   pub long : least_work ≤ length w
   pub source : from + n ≤ blocks_at
   pub region : to + most_symbols ≤ blocks_at
-  pub apart : Apart from n to most_symbols
+  pub apart : Apart from n (text_from to 0)
   pub short : n ≤ most_symbols
   pub few : first ≤ most_symbols
   pub filed : (k : ℕ) → k < first + count mark (part from n w) → Filed w k
@@ -70,7 +70,7 @@ stored-filled w mark first s =
     filled-returned mark (stored_at w) s (stored_from w first (count mark s)) first (omega arith) (λ i h. stored-block w (count mark s) first i (omega arith))
 
 -- ---- what is read of a block after an append to a text region
-module _ {w w' : List ℕ} {to n n' : ℕ} {bs : List ℕ} (region : to + most_symbols ≤ blocks_at) (a : Appended w w' to most_symbols n n' bs) where
+module _ {w w' : List ℕ} {to n n' : ℕ} {bs : List ℕ} (region : to + most_symbols ≤ blocks_at) (a : Appended w w' (text_from to n) (text_from to n') bs) where
   -- a byte behind both text regions
   byte-kept : (at : ℕ) → blocks_at ≤ at → get_or w' at 0 ≡ get_or w at 0
   byte-kept at h = ap (λ v. get_or v at 0) a.work ∙ puts-outside bs w to most_symbols n at (inr (omega arith))
@@ -93,7 +93,7 @@ module _ {w w' : List ℕ} {to n n' : ℕ} {bs : List ℕ} (region : to + most_s
 -- ---- the loop
 pub record Returning (mark first : ℕ) (w₀ w : List ℕ) (from n to len k i : ℕ) : Type 0 where
   pub out : List ℕ
-  pub appended : Appended w₀ w to most_symbols 0 len out
+  pub appended : Appended w₀ w (text_from to 0) (text_from to len) out
   pub same-as-whole : out ++ returned mark (stored_at w₀) k (drop i (part from n w₀)) ≡ returned mark (stored_at w₀) first (part from n w₀)
   pub left : k + count mark (drop i (part from n w₀)) ≡ first + count mark (part from n w₀)
   pub len-bounded : len ≤ half_work * i
@@ -101,19 +101,16 @@ pub record Returning (mark first : ℕ) (w₀ w : List ℕ) (from n to len k i :
 
 pub returning-none : (mark first : ℕ) (w : List ℕ) (from n to : ℕ) → Returning mark first w w from n to 0 first 0
 returning-none mark first w from n to =
-    record { out = []; appended = appended-none w to most_symbols 0; same-as-whole = refl; left = refl; len-bounded = omega arith; k-bounded = omega arith }
+    record { out = []; appended = appended-none w (text_from to 0); same-as-whole = refl; left = refl; len-bounded = omega arith; k-bounded = omega arith }
 
 module _
     {mark first : ℕ} {w₀ w : List ℕ} {from n to len k i : ℕ}
     (back : Back w₀ from n to mark first) (r : Returning mark first w₀ w from n to len k i)
   where
-    pub returning-long : length w ≡ length w₀
-    returning-long = appended-long r.appended
-
     source-long : length (part from n w₀) ≡ n
     source-long = let l = back.long in let s = back.source in length_part from n w₀ (omega arith)
 
-    pub returning-all : n ≤ i → Appended w₀ w to most_symbols 0 len (filled mark (stored_from w₀ first (count mark (part from n w₀))) (part from n w₀))
+    pub returning-all : n ≤ i → Appended w₀ w (text_from to 0) (text_from to len) (filled mark (stored_from w₀ first (count mark (part from n w₀))) (part from n w₀))
     unfolding returned
     returning-all l =
         let e = source-long in
@@ -121,9 +118,6 @@ module _
         let d = drop_of_length-le (part from n w₀) short in
         let t = sym (append-nil r.out) ∙ ap (λ s. r.out ++ returned mark (stored_at w₀) k s) (sym d) ∙ r.same-as-whole in
         rw (stored-filled w₀ mark first (part from n w₀), ← t) r.appended
-
-    pub back-room : (m : ℕ) → m ≤ half_work → i < n → Room w to most_symbols len m
-    back-room m few l = let a = returning-long in let b = back.long in let g = back.region in let x = r.len-bounded in let s = back.short in record { region = omega arith; small = omega arith }
 
     module _ (more : i < n) where
       here : drop i (part from n w₀) ≡ get_or w (from + i) 0 ∷ drop (i + 1) (part from n w₀)
@@ -139,7 +133,7 @@ module _
               ∙ puts-outside r.out w₀ to most_symbols 0 (from + i) (⊎_elim (λ l. inl (omega arith)) (λ l. inr (omega arith)) back.apart)
 
       pub returning-other :
-          {w' : List ℕ} {len' : ℕ} → (get_or w (from + i) 0 ≡ mark → ⊥) → Appended w w' to most_symbols len len' (get_or w (from + i) 0 ∷ [])
+          {w' : List ℕ} {len' : ℕ} → (get_or w (from + i) 0 ≡ mark → ⊥) → Appended w w' (text_from to len) (text_from to len') (get_or w (from + i) 0 ∷ [])
           → Returning mark first w₀ w' from n to len' k (i + 1)
       unfolding returned count
       returning-other other a =
@@ -167,7 +161,7 @@ module _
         filed-now = filed-kept back.region r.appended k filed-here
 
         pub returning-mark :
-            {w' : List ℕ} {len' : ℕ} → Appended w w' to most_symbols len len' (stored_at w k)
+            {w' : List ℕ} {len' : ℕ} → Appended w w' (text_from to len) (text_from to len') (stored_at w k)
             → Returning mark first w₀ w' from n to len' (k + 1) (i + 1)
         unfolding returned count
         returning-mark a =

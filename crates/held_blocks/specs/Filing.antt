@@ -3,9 +3,9 @@
 --     place                start and length of a block, two bytes each
 --     files                the places of blocks that stand one behind the other
 --     HeldOut              what has been written to the three regions: the buffer is that of three appends
-use Rattle.std.specs.Prelude.{◌≡◌, Bool, ℕ, suc, ◌+◌, ◌/◌, ◌%◌, ◌≤◌, length, set}
+use Rattle.std.specs.Prelude.{◌≡◌, Bool, ◌⊎◌, ℕ, suc, ◌+◌, ◌/◌, ◌%◌, ◌≤◌, length, set}
 use Rattle.std.proofs.Math.Path.{refl, ap}
-use Rattle.std.proofs.Common.{sym, ◌∙◌, inr, add-zero, arith, length-append}
+use Rattle.std.proofs.Common.{sym, ◌∙◌, ap₂, subst, subst₂, inr, add-zero, arith, length-append}
 use Rattle.std.proofs.Math.Bool.{true, false, cond}
 use Rattle.std.proofs.Math.Logic.{⊎_elim}
 use mathlib.Core.List.{List, [], ◌∷◌, ◌++◌, append_assoc, append-nil}
@@ -14,6 +14,7 @@ use borrow.Author.Tests.{ltb-true}
 use Rattle.std.proofs.Math.Seq.{set_comm}
 use Rattle.spec.specs.Result.{most_symbols}
 use Rattle.text_symbols.specs.Parts.{part}
+use Rattle.text.specs.declared.writer.Writer.{Writer}
 use Rattle.text.specs.Writer.{stored, puts, Appended, Apart, appended-none, appended-more}
 use Rattle.held_laws.specs.Marks.{concat}
 
@@ -30,8 +31,32 @@ places_at = 27648
 abbrev pub places_room : ℕ
 places_room = 5120
 
+-- the writers of the three regions, behind so many symbols
+abbrev pub text_from : ℕ → ℕ → Writer
+text_from to len = record { to = to; cap = most_symbols; count = len }
+
+abbrev pub blocks_from : ℕ → Writer
+blocks_from used = record { to = blocks_at; cap = blocks_room; count = used }
+
+abbrev pub places_from : ℕ → Writer
+places_from filed = record { to = places_at; cap = places_room; count = filed }
+
+-- after an append a writer differs by its count alone
+pub appended-writer : {w w' : List ℕ} {o o' : Writer} {bs : List ℕ} → Appended w w' o o' bs → o' ≡ record { to = o.to; cap = o.cap; count = o'.count }
+appended-writer {o' = o'} a = ap₂ (λ t c. record { to = t; cap = c; count = o'.count }) a.same-place a.same-cap
+
+-- the writer of a text stays that of its region
+pub text-appended : {w w' : List ℕ} {o o' : Writer} {to : ℕ} {bs : List ℕ} → o ≡ text_from to o.count → Appended w w' o o' bs
+    → (o' ≡ text_from to o'.count) × Appended w w' (text_from to o.count) (text_from to o'.count) bs
+text-appended {w} {w'} {o' = o'} {bs = bs} e a =
+    let same = appended-writer a ∙ ap₂ (λ t c. record { to = t; cap = c; count = o'.count }) (ap (λ k. k.to) e) (ap (λ k. k.cap) e) in
+    (same, subst₂ (λ p q. Appended w w' p q bs) e same a)
+
+pub appended-counted : {w w' : List ℕ} {o o' : Writer} {bs : List ℕ} → Appended w w' o o' bs → Appended w w' o (record { to = o.to; cap = o.cap; count = o'.count }) bs
+appended-counted {w} {w'} {o} {bs = bs} a = subst (λ p. Appended w w' o p bs) (appended-writer a) a
+
 -- ---- two appends to regions that lie apart can change places
-module _ (to cap to' cap' : ℕ) (apart : Apart to cap to' cap') where
+module _ (to cap to' cap' : ℕ) (apart : (to + cap ≤ to') ⊎ (to' + cap' ≤ to)) where
   stored-swap : (w : List ℕ) (count b count' b' : ℕ) → stored (stored w to cap count b) to' cap' count' b' ≡ stored (stored w to' cap' count' b') to cap count b
   unfolding stored
   stored-swap w count b count' b' = go (ltb count cap) refl (ltb count' cap') refl
@@ -58,16 +83,19 @@ module _ (to cap to' cap' : ℕ) (apart : Apart to cap to' cap') where
   puts-swap (a ∷ xs) bs w count count' =
       puts-swap xs bs (stored w to cap count a) (suc count) count' ∙ ap (λ v. puts v to cap (suc count) xs) (stored-puts bs w count a count')
 
-  -- the second append, made first
-  module _
-      {w w' w'' : List ℕ} {count count₁ count' count₁' : ℕ} {xs bs : List ℕ}
-      (a : Appended w w' to cap count count₁ xs) (b : Appended w' w'' to' cap' count' count₁' bs)
-    where
-      first-second : Appended w (puts w to' cap' count' bs) to' cap' count' count₁' bs
-      first-second = record { counted = b.counted; work = refl }
+-- the second append, made first
+module _ (o p : Writer) (apart : Apart o.to o.cap p) {w w' w'' : List ℕ} {o' p' : Writer} {xs bs : List ℕ} (a : Appended w w' o o' xs) (b : Appended w' w'' p p' bs) where
+  first-second : Appended w (puts w p.to p.cap p.count bs) p p' bs
+  first-second = record { same-place = b.same-place; same-cap = b.same-cap; counted = b.counted; work = refl }
 
-      second-first : Appended (puts w to' cap' count' bs) w'' to cap count count₁ xs
-      second-first = record { counted = a.counted; work = b.work ∙ ap (λ v. puts v to' cap' count' bs) a.work ∙ puts-swap xs bs w count count' }
+  second-first : Appended (puts w p.to p.cap p.count bs) w'' o o' xs
+  second-first =
+      record {
+        same-place = a.same-place;
+        same-cap = a.same-cap;
+        counted = a.counted;
+        work = b.work ∙ ap (λ v. puts v p.to p.cap p.count bs) a.work ∙ puts-swap o.to o.cap p.to p.cap apart xs bs w o.count p.count;
+      }
 
 -- ---- what stands in the regions of blocks and places
 abbrev pub pair : ℕ → List ℕ
@@ -96,45 +124,45 @@ files-more (c ∷ bs) b start =
 pub record HeldOut (w w' : List ℕ) (to used₀ filed₀ len used filed : ℕ) (out : List ℕ) (bs : List (List ℕ)) : Type 0 where
   pub w₁ : List ℕ
   pub w₂ : List ℕ
-  pub text : Appended w w₁ to most_symbols 0 len out
-  pub block : Appended w₁ w₂ blocks_at blocks_room used₀ used (concat bs)
-  pub filing : Appended w₂ w' places_at places_room filed₀ filed (files used₀ bs)
+  pub text : Appended w w₁ (text_from to 0) (text_from to len) out
+  pub block : Appended w₁ w₂ (blocks_from used₀) (blocks_from used) (concat bs)
+  pub filing : Appended w₂ w' (places_from filed₀) (places_from filed) (files used₀ bs)
 
 -- one block has been copied behind the others, and its place
-pub record BlockFiled (w w' : List ℕ) (at long used used' filed : ℕ) : Type 0 where
+pub record BlockFiled (w w' : List ℕ) (at long used used' filed filed' : ℕ) : Type 0 where
   pub v : List ℕ
-  pub block : Appended w v blocks_at blocks_room used used' (part at long w)
-  pub filing : Appended v w' places_at places_room filed (filed + 4) (place used long)
+  pub block : Appended w v (blocks_from used) (blocks_from used') (part at long w)
+  pub filing : Appended v w' (places_from filed) (places_from filed') (place used long)
 
 pub held_none : (w : List ℕ) (to used filed : ℕ) → HeldOut w w to used filed 0 used filed [] []
 unfolding concat files
 held_none w to used filed =
-    record { w₁ = w; w₂ = w; text = appended-none w to most_symbols 0; block = appended-none w blocks_at blocks_room used; filing = appended-none w places_at places_room filed }
+    record { w₁ = w; w₂ = w; text = appended-none w (text_from to 0); block = appended-none w (blocks_from used); filing = appended-none w (places_from filed) }
 
 module _
     {w w' : List ℕ} {to used₀ filed₀ len used filed : ℕ} {out : List ℕ} {bs : List (List ℕ)}
     (region : to + most_symbols ≤ blocks_at) (h : HeldOut w w' to used₀ filed₀ len used filed out bs)
   where
     -- more text
-    pub held-text : {w'' : List ℕ} {len' : ℕ} {more : List ℕ} → Appended w' w'' to most_symbols len len' more → HeldOut w w'' to used₀ filed₀ len' used filed (out ++ more) bs
+    pub held-text : {w'' : List ℕ} {len' : ℕ} {more : List ℕ} → Appended w' w'' (text_from to len) (text_from to len') more → HeldOut w w'' to used₀ filed₀ len' used filed (out ++ more) bs
     held-text a =
-        let text-places : Apart places_at places_room to most_symbols = inr (omega arith) in
-        let text-blocks : Apart blocks_at blocks_room to most_symbols = inr region in
-        let f = first-second places_at places_room to most_symbols text-places h.filing a in
-        let g = second-first places_at places_room to most_symbols text-places h.filing a in
-        let f' = first-second blocks_at blocks_room to most_symbols text-blocks h.block f in
-        let g' = second-first blocks_at blocks_room to most_symbols text-blocks h.block f in
+        let text-places : Apart places_at places_room (text_from to len) = inr (omega arith) in
+        let text-blocks : Apart blocks_at blocks_room (text_from to len) = inr region in
+        let f = first-second (places_from filed₀) (text_from to len) text-places h.filing a in
+        let g = second-first (places_from filed₀) (text_from to len) text-places h.filing a in
+        let f' = first-second (blocks_from used₀) (text_from to len) text-blocks h.block f in
+        let g' = second-first (blocks_from used₀) (text_from to len) text-blocks h.block f in
         record { w₁ = _; w₂ = _; text = appended-more h.text f'; block = g'; filing = g }
 
     -- one more block, and its place
     pub held-block :
         {v w'' : List ℕ} {used' filed' : ℕ} {b : List ℕ}
-        → Appended w' v blocks_at blocks_room used used' b → Appended v w'' places_at places_room filed filed' (place used (length b))
+        → Appended w' v (blocks_from used) (blocks_from used') b → Appended v w'' (places_from filed) (places_from filed') (place used (length b))
         → HeldOut w w'' to used₀ filed₀ len used' filed' out (bs ++ (b ∷ []))
     held-block {b = b} x y =
-        let blocks-places : Apart places_at places_room blocks_at blocks_room = inr (omega arith) in
-        let f = first-second places_at places_room blocks_at blocks_room blocks-places h.filing x in
-        let g = second-first places_at places_room blocks_at blocks_room blocks-places h.filing x in
+        let blocks-places : Apart places_at places_room (blocks_from used) = inr (omega arith) in
+        let f = first-second (places_from filed₀) (blocks_from used) blocks-places h.filing x in
+        let g = second-first (places_from filed₀) (blocks_from used) blocks-places h.filing x in
         let c = h.block.counted in
         record {
           w₁ = h.w₁;

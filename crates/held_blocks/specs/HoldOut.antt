@@ -2,7 +2,7 @@
 --     taken_from    what is taken out of a text
 --     Hold         what `hold_out` asks
 --     Holding      the invariant of its loop, at place i
-use Rattle.std.specs.Prelude.{◌≡◌, true, false, ℕ, ◌+◌, ◌-◌, ◌*◌, ◌<◌, ◌≤◌, take}
+use Rattle.std.specs.Prelude.{◌≡◌, true, false, ℕ, ◌+◌, ◌-◌, ◌*◌, ◌<◌, ◌≤◌, take, Some, None}
 use Rattle.std.proofs.Math.Path.{refl, sym, ap}
 use Rattle.std.proofs.Common.{◌∙◌, subst, inl, not-suc-le-zero, add-one, length-take, take-append-drop, drop-drop}
 use mathlib.Core.List.{List, [], ◌∷◌, ◌++◌, append_assoc, append-nil}
@@ -17,18 +17,18 @@ use Rattle.spec.specs.Laws.Symbols.{starts-long}
 use Rattle.spec.specs.Closing.{find_matching_brace}
 use Rattle.spec.specs.Held.{Taken, take_out}
 use Rattle.text_symbols.specs.Parts.{part, length_part, rest_part, sub_part}
-use Rattle.text.specs.Writer.{Room, Appended, Apart, apart-part, appended-long, appended-part}
+use Rattle.text.specs.Writer.{Appended, Apart, apart-part, appended-long, appended-part}
 use Rattle.text_search.specs.Search.{Closes, closes-at, closes-within, closes-nothing}
-use Rattle.text_search.specs.declared.Found.{Found}
-use Rattle.text_search.specs.declared.Found.TheVariants.{At, Nothing}
+use Rattle.text_search.specs.Search.{Found}
+use Rattle.std.specs.Prelude.{Some, None}
 use Rattle.held_laws.specs.TakeOut.{turn-passing, turn-unclosed, turn-holding}
-use Rattle.held_blocks.specs.Filing.{blocks_at, blocks_room, places_at, places_room, HeldOut, BlockFiled, held_none, held-text, held-block}
+use Rattle.held_blocks.specs.Filing.{text_from, blocks_at, blocks_room, places_room, HeldOut, BlockFiled, held_none, held-text, held-block}
 
 pub record Hold (w : List ℕ) (from n to used filed : ℕ) : Type 0 where
   pub long : least_work ≤ length w
   pub source : from + n ≤ blocks_at
   pub region : to + most_symbols ≤ blocks_at
-  pub apart : Apart from n to most_symbols
+  pub apart : Apart from n (text_from to 0)
   pub short : n ≤ most_symbols
   pub few : used ≤ blocks_room
   pub small : filed ≤ places_room
@@ -62,6 +62,7 @@ pub record Holding (name : List ℕ) (mark : ℕ) (w₀ w : List ℕ) (from n to
   pub out : List ℕ
   pub blocks-out : List (List ℕ)
   pub regions : HeldOut w₀ w to used₀ filed₀ len used filed out blocks-out
+  pub long : length w ≡ length w₀
   pub texts : out ++ (taken_from name mark (drop i (part from n w₀))).left ≡ (taken_from name mark (part from n w₀)).left
   pub held : blocks-out ++ (taken_from name mark (drop i (part from n w₀))).blocks ≡ (taken_from name mark (part from n w₀)).blocks
   pub len-bounded : len ≤ i
@@ -74,6 +75,7 @@ holding-none name mark w from n to used filed =
       out = [];
       blocks-out = [];
       regions = held_none w to used filed;
+      long = refl;
       texts = refl;
       held = refl;
       len-bounded = omega arith;
@@ -85,9 +87,6 @@ module _
     {name : List ℕ} {mark : ℕ} {w₀ w : List ℕ} {from n to used₀ filed₀ len used filed i : ℕ}
     (hold : Hold w₀ from n to used₀ filed₀) (h : Holding name mark w₀ w from n to used₀ filed₀ len used filed i)
   where
-    pub holding-long : length w ≡ length w₀
-    holding-long = appended-long h.regions.filing ∙ appended-long h.regions.block ∙ appended-long h.regions.text
-
     source-same : part from n w ≡ part from n w₀
     source-same =
         let s = hold.source in
@@ -118,16 +117,6 @@ module _
         let b = sym (append-nil h.blocks-out) ∙ ap (λ s. h.blocks-out ++ (taken_from name mark s).blocks) (sym d) ∙ h.held in
         rw (← t, ← b) h.regions
 
-    -- the room for what a turn writes
-    pub text-room : (m : ℕ) → m ≤ most_symbols → i ≤ n → Room w to most_symbols len m
-    text-room m few l = let a = holding-long in let g = hold.long in let r = hold.region in let x = h.len-bounded in let s = hold.short in record { region = omega arith; small = omega arith }
-
-    pub block_room : (m : ℕ) → m ≤ most_symbols → i ≤ n → Room w blocks_at blocks_room used m
-    block_room m few l = let a = holding-long in let g = hold.long in let x = h.used-bounded in let s = hold.few in let k = hold.short in record { region = omega arith; small = omega arith }
-
-    pub place-room : i ≤ n → Room w places_at places_room filed 4
-    place-room l = let a = holding-long in let g = hold.long in let x = h.filed-bounded in let s = hold.small in let k = hold.short in record { region = omega arith; small = omega arith }
-
     pub name-fits : starts name (ahead i) ≡ true → i ≤ n → i + length name ≤ n
     name-fits met l =
         let e = starts-long name (ahead i) met in
@@ -146,7 +135,7 @@ module _
 
       -- a symbol is copied
       pub holding-other :
-          {w' : List ℕ} {len' : ℕ} → starts name (ahead i) ≡ false → Appended w w' to most_symbols len len' (part (from + i) 1 w)
+          {w' : List ℕ} {len' : ℕ} → starts name (ahead i) ≡ false → Appended w w' (text_from to len) (text_from to len') (part (from + i) 1 w)
           → Holding name mark w₀ w' from n to used₀ filed₀ len' used filed (i + 1)
       holding-other other a =
           let s = part from n w₀ in
@@ -154,12 +143,13 @@ module _
           let one = symbols-read 1 (omega arith) in
           let next = drop-drop 1 i s in
           let c = a.counted in
-          let l = length_part (from + i) 1 w (let e = holding-long in let f = hold.source in let g = hold.long in omega arith) in
+          let l = length_part (from + i) 1 w (let e = h.long in let f = hold.source in let g = hold.long in omega arith) in
           let x = h.len-bounded in let y = h.used-bounded in let z = h.filed-bounded in
           record {
             out = h.out ++ take 1 (drop i s);
             blocks-out = h.blocks-out;
             regions = held-text hold.region h.regions (rw one at a);
+            long = appended-long a ∙ h.long;
             texts = append_assoc h.out (take 1 (drop i s)) _ ∙ ap (λ l. h.out ++ (take 1 (drop i s) ++ (taken_from name mark l).left)) (sym next) ∙ ap (λ x. h.out ++ x.left) (sym turn) ∙ h.texts;
             held = ap (λ l. h.blocks-out ++ (taken_from name mark l).blocks) (sym next) ∙ ap (λ x. h.blocks-out ++ x.blocks) (sym turn) ∙ h.held;
             len-bounded = omega arith;
@@ -168,12 +158,12 @@ module _
           }
 
       module _ {r : Found} (met : starts name (ahead i) ≡ true) (search : Closes (ahead (i + length name)) r (find_matching_brace (ahead (i + length name)))) where
-        rest-turn : r ≡ Nothing → taken_from name mark (drop i (part from n w₀)) ≡ record { left = drop i (part from n w₀); blocks = [] }
+        rest-turn : r ≡ None → taken_from name mark (drop i (part from n w₀)) ≡ record { left = drop i (part from n w₀); blocks = [] }
         rest-turn e = turn-none name mark (drop i (part from n w₀)) (met-here met) (ap find_matching_brace behind-name ∙ closes-nothing search e)
 
         -- a block that doesn't close: the rest is copied
         pub holding-rest :
-            {w' : List ℕ} {len' : ℕ} → r ≡ Nothing → Appended w w' to most_symbols len len' (part (from + i) (n - i) w)
+            {w' : List ℕ} {len' : ℕ} → r ≡ None → Appended w w' (text_from to len) (text_from to len') (part (from + i) (n - i) w)
             → Holding name mark w₀ w' from n to used₀ filed₀ len' used filed n
         unfolding take_out
         holding-rest e a =
@@ -190,6 +180,7 @@ module _
               out = h.out ++ drop i s;
               blocks-out = h.blocks-out;
               regions = held-text hold.region h.regions (rw whole at a);
+              long = appended-long a ∙ h.long;
               texts = ap (λ l. h.out ++ drop i s ++ (taken_from name mark l).left) done ∙ append-nil (h.out ++ drop i s) ∙ ap (λ x. h.out ++ x.left) (sym turn) ∙ h.texts;
               held = ap (λ l. h.blocks-out ++ (taken_from name mark l).blocks) done ∙ ap (λ x. h.blocks-out ++ x.blocks) (sym turn) ∙ h.held;
               len-bounded = omega arith;
@@ -198,8 +189,8 @@ module _
             }
 
         -- a block that closes
-        module _ (k : ℕ) (e : r ≡ At k) where
-          pub block-fits : i + length name + k + 1 ≤ n
+        module _ (k : ℕ) (e : r ≡ Some k) where
+          block-fits : i + length name + k + 1 ≤ n
           block-fits =
               let inner = closes-within search e in
               let l = length-take (from + n - (from + (i + length name))) (drop (from + (i + length name)) w) in
@@ -220,10 +211,10 @@ module _
               turn-held name mark s (length name + k) (omega arith) (met-here met) closed
 
           pub holding-held :
-              {v w' : List ℕ} {len' used' : ℕ}
-              → Appended w v to most_symbols len len' (mark ∷ [])
-              → BlockFiled v w' (from + i) (length name + k + 1) used used' filed
-              → Holding name mark w₀ w' from n to used₀ filed₀ len' used' (filed + 4) (i + length name + k + 1)
+              {v w' : List ℕ} {len' used' filed' : ℕ}
+              → Appended w v (text_from to len) (text_from to len') (mark ∷ [])
+              → BlockFiled v w' (from + i) (length name + k + 1) used used' filed filed'
+              → Holding name mark w₀ w' from n to used₀ filed₀ len' used' filed' (i + length name + k + 1)
           holding-held {v} a kept =
               let s = part from n w₀ in
               let long = length name + k + 1 in
@@ -231,17 +222,18 @@ module _
               let wide = source-long in
               let d = length-drop i s in
               let turn = held-turn in
-              let block = appended-part a (from + i) long (apart-part from n to most_symbols i long hold.apart (omega arith)) ∙ symbols-read long (omega arith) in
+              let block = appended-part a (from + i) long (apart-part from n (text_from to len) i long hold.apart (omega arith)) ∙ symbols-read long (omega arith) in
               let m = length-take long (drop i s) in
               let l : length (take long (drop i s)) ≡ long = omega arith in
               let step : i + long ≡ i + length name + k + 1 = omega arith in
               let next : drop long (drop i s) ≡ drop (i + length name + k + 1) s = drop-drop long i s ∙ ap (λ m. drop m s) step in
-              let c = a.counted in let c' = kept.block.counted in let l' = ap length block in
+              let c = a.counted in let c' = kept.block.counted in let l' = ap length block in let f = kept.filing.counted in
               let x = h.len-bounded in let y = h.used-bounded in let z = h.filed-bounded in
               record {
                 out = h.out ++ (mark ∷ []);
                 blocks-out = h.blocks-out ++ (take long (drop i s) ∷ []);
                 regions = held-block hold.region (held-text hold.region h.regions a) (rw block at kept.block) (rw (← l) at kept.filing);
+                long = appended-long kept.filing ∙ appended-long kept.block ∙ appended-long a ∙ h.long;
                 texts = append_assoc h.out (mark ∷ []) _ ∙ ap (λ l. h.out ++ (mark ∷ (taken_from name mark l).left)) (sym next) ∙ ap (λ x. h.out ++ x.left) (sym turn) ∙ h.texts;
                 held = append_assoc h.blocks-out (take long (drop i s) ∷ []) _ ∙ ap (λ l. h.blocks-out ++ (take long (drop i s) ∷ (taken_from name mark l).blocks)) (sym next) ∙ ap (λ x. h.blocks-out ++ x.blocks) (sym turn) ∙ h.held;
                 len-bounded = omega arith;

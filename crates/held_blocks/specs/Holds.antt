@@ -21,7 +21,7 @@ use Rattle.held_laws.specs.Marks.{has_mark, count, concat}
 use Rattle.held_laws.specs.WellMade.{texts_of, symbols-of, WellMade}
 use Rattle.held_laws.specs.InFull.{in-full-order, text-marks-left}
 use Rattle.held_laws.specs.Limits.{texts-few, texts-short, both-few, both-short}
-use Rattle.held_blocks.specs.Filing.{blocks_at, HeldOut}
+use Rattle.held_blocks.specs.Filing.{text_from, blocks_at, HeldOut}
 use Rattle.held_blocks.specs.HoldOut.{Hold, taken_from}
 use Rattle.held_blocks.specs.Back.{Back, stored_from}
 use Rattle.held_blocks.specs.Keeping.{KeepsBlocks, keeps-none, keeps-filed, keeps-stored, used-more, filed-more, keeps-more, keeps-beyond}
@@ -30,8 +30,8 @@ pub record Holds (w : List ℕ) (at : ℕ) (m : Marked) (h : Held) : Type 0 wher
   pub text : part at m.len w ≡ h.text
   pub short : m.len ≤ most_symbols
   pub keeps : KeepsBlocks w (texts_of h ++ h.romans)
-  pub used : m.used ≡ length (concat (texts_of h ++ h.romans))
-  pub filed : m.filed ≡ 4 * length (texts_of h ++ h.romans)
+  pub used : m.blocks.used ≡ length (concat (texts_of h ++ h.romans))
+  pub filed : m.blocks.filed ≡ 4 * length (texts_of h ++ h.romans)
 
 -- ---- holding out
 -- the text that was written stands in its region
@@ -41,7 +41,7 @@ held-text-read :
 held-text-read {to = to} {len = len} long region h short =
     appended-part h.filing to len (inl (omega arith))
     ∙ appended-part h.block to len (inl (omega arith))
-    ∙ appended-text h.text (omega arith) short
+    ∙ appended-text h.text refl (omega arith) short
 
 module _ {w : List ℕ} {from n to : ℕ} (hold : Hold w from n to 0 0) (free : has_mark (part from n w) ≡ false) (source : length (part from n w) ≤ most_symbols) where
   abbrev s : List ℕ
@@ -52,7 +52,7 @@ module _ {w : List ℕ} {from n to : ℕ} (hold : Hold w from n to 0 0) (free : 
 
   module _
       {w' : List ℕ} {m : Marked}
-      (h : HeldOut w w' to 0 0 m.len m.used m.filed (taken_from (bytes "\\text{") text_mark s).left texts)
+      (h : HeldOut w w' to 0 0 m.len m.blocks.used m.blocks.filed (taken_from (bytes "\\text{") text_mark s).left texts)
     where
       pub holds_texts : Holds w' to m (hold_texts s)
       unfolding hold_texts concat
@@ -64,8 +64,8 @@ module _ {w : List ℕ} {from n to : ℕ} (hold : Hold w from n to 0 0) (free : 
           let c = h.text.counted in
           let len : m.len ≤ most_symbols = omega arith in
           let kept : KeepsBlocks w' texts = keeps-more [] texts hold.region refl refl h (keeps-none w hold.long) (omega arith) (omega arith) in
-          let used : m.used ≡ length (concat texts) = used-more [] texts hold.region refl refl h in
-          let filed : m.filed ≡ 4 * length texts = filed-more [] texts hold.region refl refl h in
+          let used : m.blocks.used ≡ length (concat texts) = used-more [] texts hold.region refl refl h in
+          let filed : m.blocks.filed ≡ 4 * length texts = filed-more [] texts hold.region refl refl h in
           record {
             text = held-text-read hold.long hold.region h len;
             short = len;
@@ -77,14 +77,14 @@ module _ {w : List ℕ} {from n to : ℕ} (hold : Hold w from n to 0 0) (free : 
 -- a second `hold_out`, of what the first has left
 pub holds-both :
     (s : List ℕ) → has_mark s ≡ false → length s ≤ most_symbols
-    → {w w' : List ℕ} {at to : ℕ} {m m' : Marked} → Holds w at m (hold_texts s) → Hold w at m.len to m.used m.filed
-    → HeldOut w w' to m.used m.filed m'.len m'.used m'.filed (taken_from (bytes "\\mathrm{") roman_mark (part at m.len w)).left (taken_from (bytes "\\mathrm{") roman_mark (part at m.len w)).blocks
+    → {w w' : List ℕ} {at to : ℕ} {m m' : Marked} → Holds w at m (hold_texts s) → Hold w at m.len to m.blocks.used m.blocks.filed
+    → HeldOut w w' to m.blocks.used m.blocks.filed m'.len m'.blocks.used m'.blocks.filed (taken_from (bytes "\\mathrm{") roman_mark (part at m.len w)).left (taken_from (bytes "\\mathrm{") roman_mark (part at m.len w)).blocks
     → Holds w' to m' (hold_both s)
 unfolding hold_both hold_texts concat
 holds-both s free source {w} {w'} {at} {to} {m} {m'} held hold h =
     let texts = (taken_from (bytes "\\text{") text_mark s).blocks in
     let romans = (taken_from (bytes "\\mathrm{") roman_mark (taken_from (bytes "\\text{") text_mark s).left).blocks in
-    let g = subst (λ l. HeldOut w w' to m.used m.filed m'.len m'.used m'.filed (taken_from (bytes "\\mathrm{") roman_mark l).left (taken_from (bytes "\\mathrm{") roman_mark l).blocks) held.text h in
+    let g = subst (λ l. HeldOut w w' to m.blocks.used m.blocks.filed m'.len m'.blocks.used m'.blocks.filed (taken_from (bytes "\\mathrm{") roman_mark l).left (taken_from (bytes "\\mathrm{") roman_mark l).blocks) held.text h in
     let few = both-few s free source in
     let bytes-few = few.0 in
     let places-few = few.1 in
@@ -92,8 +92,8 @@ holds-both s free source {w} {w'} {at} {to} {m} {m'} held hold h =
     let c = g.text.counted in
     let len : m'.len ≤ most_symbols = omega arith in
     let first : texts_of (hold_texts s) ++ [] ≡ texts = append-nil (texts_of (hold_texts s)) ∙ symbols-of [] texts in
-    let used : m.used ≡ length (concat texts) = held.used ∙ ap (λ bs. length (concat bs)) first in
-    let filed : m.filed ≡ 4 * length texts = held.filed ∙ ap (λ (bs : List (List ℕ)). 4 * length bs) first in
+    let used : m.blocks.used ≡ length (concat texts) = held.used ∙ ap (λ bs. length (concat bs)) first in
+    let filed : m.blocks.filed ≡ 4 * length texts = held.filed ∙ ap (λ (bs : List (List ℕ)). 4 * length bs) first in
     let kept : KeepsBlocks w texts = subst (KeepsBlocks w) first held.keeps in
     let all : texts_of (hold_both s) ++ romans ≡ texts ++ romans = ap (λ (bs : List (List ℕ)). bs ++ romans) (symbols-of _ texts) in
     record {
@@ -108,13 +108,13 @@ holds-both s free source {w} {w'} {at} {to} {m} {m'} held hold h =
 module _ {w : List ℕ} {at : ℕ} {m : Marked} {h : Held} (holds : Holds w at m h) where
   pub holds-rewritten :
       {w' : List ℕ} {to n : ℕ} {s : List ℕ} → length w' ≡ length w → drop blocks_at w' ≡ drop blocks_at w → part to n w' ≡ s → n ≤ most_symbols
-      → Holds w' to (record { len = n; used = m.used; filed = m.filed }) (with_text h s)
+      → Holds w' to (record { len = n; blocks = m.blocks }) (with_text h s)
   holds-rewritten l beyond text short =
       record { text = text; short = short; keeps = keeps-beyond l beyond holds.keeps; used = holds.used; filed = holds.filed }
 
   module _ (made : WellMade h) where
     -- ---- putting back
-    module _ {to : ℕ} (source : at + most_symbols ≤ blocks_at) (region : to + most_symbols ≤ blocks_at) (apart : Apart at m.len to most_symbols) where
+    module _ {to : ℕ} (source : at + most_symbols ≤ blocks_at) (region : to + most_symbols ≤ blocks_at) (apart : Apart at m.len (text_from to 0)) where
       roman-count : count roman_mark (part at m.len w) ≡ length h.romans
       roman-count = ap (count roman_mark) holds.text ∙ made.roman-marks
 
@@ -136,11 +136,11 @@ module _ {w : List ℕ} {at : ℕ} {m : Marked} {h : Held} (holds : Holds w at m
 
       module _
           {w' : List ℕ} {n : ℕ}
-          (a : Appended w w' to most_symbols 0 n (filled roman_mark (stored_from w (length (texts_of h)) (count roman_mark (part at m.len w))) (part at m.len w)))
+          (a : Appended w w' (text_from to 0) (text_from to n) (filled roman_mark (stored_from w (length (texts_of h)) (count roman_mark (part at m.len w))) (part at m.len w)))
         where
-          pub romans-back : Appended w w' to most_symbols 0 n (filled roman_mark h.romans h.text)
+          pub romans-back : Appended w w' (text_from to 0) (text_from to n) (filled roman_mark h.romans h.text)
           romans-back =
-              subst (λ l. Appended w w' to most_symbols 0 n l)
+              subst (λ l. Appended w w' (text_from to 0) (text_from to n) l)
               (ap₂ (filled roman_mark)
               (ap (stored_from w (length (texts_of h))) roman-count
               ∙ keeps-stored (texts_of h) h.romans [] (subst (λ bs. KeepsBlocks w (texts_of h ++ bs)) (sym (append-nil h.romans)) holds.keeps))
@@ -150,17 +150,17 @@ module _ {w : List ℕ} {at : ℕ} {m : Marked} {h : Held} (holds : Holds w at m
           -- what stands at `to` then, if it isn't too long, and the blocks as they were
           module _ (short : n ≤ most_symbols) where
             texts-read : part to n w' ≡ filled roman_mark h.romans h.text
-            texts-read = let l = holds.keeps.long in appended-text romans-back (omega arith) short
+            texts-read = let l = holds.keeps.long in appended-text romans-back refl (omega arith) short
 
             kept_on : KeepsBlocks w' (texts_of h ++ h.romans)
             kept_on =
                 let l = holds.keeps.long in
-                keeps-beyond (appended-long a) (wrote-beyond {k = blocks_at} (appended-written a (omega arith)).wrote region) holds.keeps
+                keeps-beyond (appended-long a) (wrote-beyond {k = blocks_at} (appended-written a refl (omega arith)).wrote region) holds.keeps
 
             text-count : count text_mark (part to n w') ≡ length (texts_of h)
             text-count = ap (count text_mark) texts-read ∙ text-marks-left made
 
-            pub back-texts : {to' : ℕ} → to' + most_symbols ≤ blocks_at → Apart to n to' most_symbols → Back w' to n to' text_mark 0
+            pub back-texts : {to' : ℕ} → to' + most_symbols ≤ blocks_at → Apart to n (text_from to' 0) → Back w' to n to' text_mark 0
             back-texts region' apart' =
                 let few = kept_on.short in
                 let l = length-append (texts_of h) h.romans in
@@ -176,9 +176,9 @@ module _ {w : List ℕ} {at : ℕ} {m : Marked} {h : Held} (holds : Holds w at m
                 }
 
             pub all_back :
-                {w'' : List ℕ} {to' n' : ℕ} → Appended w' w'' to' most_symbols 0 n' (filled text_mark (stored_from w' 0 (count text_mark (part to n w'))) (part to n w'))
-                → Appended w' w'' to' most_symbols 0 n' (in_full h)
+                {w'' : List ℕ} {to' n' : ℕ} → Appended w' w'' (text_from to' 0) (text_from to' n') (filled text_mark (stored_from w' 0 (count text_mark (part to n w'))) (part to n w'))
+                → Appended w' w'' (text_from to' 0) (text_from to' n') (in_full h)
             all_back {w''} {to'} {n'} b =
-                subst (λ l. Appended w' w'' to' most_symbols 0 n' l)
+                subst (λ l. Appended w' w'' (text_from to' 0) (text_from to' n') l)
                 (ap₂ (filled text_mark) (ap (stored_from w' 0) text-count ∙ keeps-stored [] (texts_of h) h.romans kept_on) texts-read ∙ sym (in-full-order made))
                 b

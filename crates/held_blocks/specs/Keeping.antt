@@ -10,6 +10,7 @@ use Rattle.std.proofs.Math.Seq.{drop-append-add, take-append_seam}
 use Rattle.spec.specs.Result.{most_symbols}
 use Rattle.spec.specs.Pipeline.{least_work}
 use Rattle.text_symbols.specs.Parts.{part, get_d_part, sub_part}
+use Rattle.text.specs.declared.writer.Writer.{Writer}
 use Rattle.text.specs.Writer.{Appended, appended-long, appended-part}
 use Rattle.text.specs.Written.{Wrote, wrote-more, wrote-text}
 use Rattle.held_laws.specs.Marks.{block_at, concat}
@@ -113,16 +114,16 @@ keeps-stored {w} bs cs ds keeps =
 -- ---- more blocks
 -- a text that stands in its region, and what is appended to it
 stands-more :
-    {w w' : List ℕ} {to cap count count' : ℕ} {out more : List ℕ} → part to (length out) w ≡ out → to + cap ≤ length w → count ≡ length out
-    → Appended w w' to cap count count' more → length (out ++ more) ≤ cap → part to (length (out ++ more)) w' ≡ out ++ more
-stands-more {w} {to = to} {cap} {out = out} e fits c a short =
-    let there : Wrote w w to cap out =
+    {w w' : List ℕ} {o o' : Writer} {out more : List ℕ} → part o.to (length out) w ≡ out → o.to + o.cap ≤ length w → o.count ≡ length out
+    → Appended w w' o o' more → length (out ++ more) ≤ o.cap → part o.to (length (out ++ more)) w' ≡ out ++ more
+stands-more {w} {o = o} {out = out} e fits c a short =
+    let there : Wrote w w o out =
     record {
       long = refl;
-      written-there = λ i h l. sym (get_d_part to (length out) w i l) ∙ ap (λ s. get_or s i 0) e;
-      elsewhere-same = λ j o. refl;
+      written-there = λ i h l. sym (get_d_part o.to (length out) w i l) ∙ ap (λ s. get_or s i 0) e;
+      elsewhere-same = λ j h. refl;
     } in
-    wrote-text (wrote-more fits c there a) fits short
+    wrote-text (wrote-more fits refl refl c there a) fits short
 
 files-append : (bs cs : List (List ℕ)) (start : ℕ) → files start (bs ++ cs) ≡ files start bs ++ files (start + length (concat bs)) cs
 unfolding files concat

@@ -2,99 +2,85 @@
 ghost use Rattle.std.specs.Prelude.{◌+◌, ◌<◌, ◌≤◌, length};
 ghost use Rattle.text_symbols.specs.Parts.{part};
 ghost use Rattle.text.specs.Writer.{Room, Appended};
-ghost use Rattle.held_blocks.specs.Filing.{blocks_at, blocks_room, places_at, places_room, pair, place, BlockFiled, HeldOut};
+ghost use Rattle.held_blocks.specs.Filing.{blocks_at, blocks_from, places_from, pair, place, BlockFiled, HeldOut};
 ghost use Rattle.held_blocks.specs.HoldOut.{Hold, taken_from};
 
-use super::Marked;
-use text_search::Found;
+use super::{Blocks, Marked};
+use text::{TextPlace, Writer};
 
 // Appends a number below 65,536 to the places, as two bytes.
-fn put_pair(work: &mut [u8], filed: usize, n: usize) -> usize
-    requires room { Room work.old places_at places_room filed 2 }
+fn put_pair(work: &mut [u8], places: Writer, n: usize) -> Writer
+    requires room { Room work.old places 2 }
     requires n_bound { n < 65536 }
-    ensures { Appended work.old work.new places_at places_room filed result (pair n) }
+    ensures { Appended work.old work.new places result (pair n) }
 {
-    let half = text::put(
-        work,
-        super::PLACES_AT,
-        super::PLACES_ROOM,
-        filed,
-        (n / 256) as u8,
-    );
-    text::put(
-        work,
-        super::PLACES_AT,
-        super::PLACES_ROOM,
-        half,
-        (n % 256) as u8,
-    )
+    places.put_all(work, &(n as u16).to_be_bytes())
 }
 
 // Appends the place of a block: its start among the blocks, and its length.
-fn put_place(work: &mut [u8], filed: usize, start: usize, long: usize) -> usize
-    requires room { Room work.old places_at places_room filed 4 }
+fn put_place(work: &mut [u8], places: Writer, start: usize, long: usize) -> Writer
+    requires room { Room work.old places 4 }
     requires start_bound { (start < 65536) × (long < 65536) }
-    ensures { Appended work.old work.new places_at places_room filed result (place start long) }
+    ensures { Appended work.old work.new places result (place start long) }
 {
-    let half = put_pair(work, filed, start);
+    let half = put_pair(work, places, start);
     put_pair(work, half, long)
 }
 
-// Copies the block at `at` behind the others, and files its place. The result is how many bytes the blocks fill.
-fn keep(work: &mut [u8], at: usize, long: usize, used: usize, filed: usize) -> usize
-    requires room { Room work.old blocks_at blocks_room used long }
-    requires place_room { Room work.old places_at places_room filed 4 }
-    requires long_bound { (at + long ≤ blocks_at) × ((used < 65536) × (long < 65536)) }
-    ensures { BlockFiled work.old work.new at long used result filed }
+// Copies the block at `at` behind the others, and files its place.
+fn keep(work: &mut [u8], at: usize, long: usize, blocks: Blocks) -> Blocks
+    requires room { Room work.old (blocks_from blocks.used) long }
+    requires place_room { Room work.old (places_from blocks.filed) 4 }
+    requires long_bound { (at + long ≤ blocks_at) × ((blocks.used < 65536) × (long < 65536)) }
+    ensures { BlockFiled work.old work.new at long blocks.used result.used blocks.filed result.filed }
 {
-    let end = text::copy(work, at, long, super::BLOCKS_AT, super::BLOCKS_ROOM, used);
-    put_place(work, filed, used, long);
-    end
+    let filled = blocks.writer().copy(work, at, long);
+    let listed = put_place(work, blocks.places_writer(), blocks.used, long);
+    Blocks {
+        used: filled.count,
+        filed: listed.count,
+    }
 }
 
-// Writes the `n` symbols at `from` to `to`, with a mark for each block of the name: a block that doesn't close is left as it
-// is, with all that stands behind it. The blocks come behind the `used` bytes of others, their places behind `filed` bytes.
+// Writes the text at `source` to `to`, with a mark for each block of the name: a block that doesn't close is left as it
+// is, with all that stands behind it. The blocks come behind those that are held already, and so do their places.
 pub fn hold_out(
     work: &mut [u8],
-    from: usize,
-    n: usize,
+    source: TextPlace,
     to: usize,
     name: &[u8],
     mark: u8,
-    used: usize,
-    filed: usize,
+    blocks: Blocks,
 ) -> Marked
-    requires hold { Hold work.old from n to used filed }
+    requires hold { Hold work.old source.at source.n to blocks.used blocks.filed }
     requires name_len_bound { length name.now ≤ 64 }
-    ensures { HeldOut work.old work.new to used filed result.len result.used result.filed (taken_from name.now mark (part from n work.old)).left (taken_from name.now mark (part from n work.old)).blocks }
+    ensures { HeldOut work.old work.new to blocks.used blocks.filed result.len result.blocks.used result.blocks.filed (taken_from name.now mark (part source.at source.n work.old)).left (taken_from name.now mark (part source.at source.n work.old)).blocks }
 {
+    let TextPlace { at: from, n } = source;
     let end = from + n;
-    let mut len = 0;
-    let mut full = used;
-    let mut listed = filed;
+    let mut out = Writer::new(to);
+    let mut held = blocks;
     let mut i = 0;
+    // The step varies: behind a block the loop goes on, and a block that doesn't close ends it.
     while i < n {
         let at = from + i;
         if !text_search::starts_with(&work[at..end], name) {
-            len = text::copy(work, at, 1, to, text::CAP, len);
+            out = out.copy(work, at, 1);
             i += 1;
             continue;
         }
         let open = i + name.len();
         let inside = from + open;
-        let Found::At(k) = text_closing::find_matching_brace(&work[inside..end]) else {
-            len = text::copy(work, at, n - i, to, text::CAP, len);
-            i = n;
-            continue;
+        let Some(k) = text_closing::find_matching_brace(&work[inside..end]) else {
+            out = out.copy(work, at, n - i);
+            break;
         };
-        len = text::put(work, to, text::CAP, len, mark);
-        full = keep(work, at, name.len() + k + 1, full, listed);
-        listed += 4;
+        out = out.put(work, mark);
+        held = keep(work, at, name.len() + k + 1, held);
         i = open + k + 1;
     }
     Marked {
-        len,
-        used: full,
-        filed: listed,
+        len: out.count,
+        blocks: held,
     }
 }

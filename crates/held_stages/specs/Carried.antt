@@ -4,7 +4,7 @@
 --     outside-answered  holding out, such stages, and putting back are the definitions' stage
 --     outside-untouched with no block and no match, all of them leave every byte as it was
 -- Assumes nothing.
-use Rattle.std.specs.Prelude.{◌≡◌, refl, Bool, true, cond, ℕ, ◌+◌, ◌-◌, ◌≤◌, ltb}
+use Rattle.std.specs.Prelude.{◌≡◌, refl, Bool, true, cond, ℕ, ◌+◌, ◌-◌, ◌≤◌, ltb, Ok, Err}
 use Rattle.std.proofs.Common.{sym, ap, ◌∙◌, subst, inl, inr, ⊎_elim, arith}
 use Rattle.std.proofs.Math.Path.{ap₂}
 use Rattle.std.proofs.Math.Bool.{false}
@@ -20,15 +20,14 @@ use Rattle.spec.specs.Laws.Held.{hold-texts-none, hold-both-none, filled_none}
 use Rattle.text_symbols.specs.Parts.{part, length_part}
 use Rattle.text.specs.Writer.{Appended, Apart, appended-long}
 use Rattle.text.specs.Written.{appended-text}
-use Rattle.text.specs.Stage.{Ready, Placed, Answered, shown, placed-text, placed-regions}
+use Rattle.text.specs.Stage.{Ready, Placed, Answered, shown, placed-text, placed-regions, Progress, Text}
 use Rattle.text.specs.Untouched.{Untouched, untouched-then, any-parts}
 use Rattle.text.specs.declared.Refusal.{Refusal}
-use Rattle.text.specs.declared.Progress.{Progress}
-use Rattle.text.specs.declared.Progress.TheVariants.{Text, Refused}
 use Rattle.held_laws.specs.Marks.{count, concat}
 use Rattle.held_laws.specs.WellMade.{symbols_of, texts_of, WellMade}
 use Rattle.held_laws.specs.Enclosed.{by_order}
 use Rattle.held_laws.specs.InFull.{in-full-order}
+use Rattle.held_blocks.specs.Filing.{text_from}
 use Rattle.held_blocks.specs.Back.{Back, stored_from}
 use Rattle.held_blocks.specs.Holds.{Holds, holds-rewritten, back-romans, romans-back, back-texts, all_back}
 use Rattle.name_entry.specs.Sized.{FitsWithBlocks, StagedWithin, sized}
@@ -38,7 +37,7 @@ use Rattle.held_stages.specs.Outside.{HeldFrom, Extra, none-held, full-long, hal
 -- a text of n symbols at `at`, between whose marks the blocks of h are to be put back
 pub record AwaitsBlocks (w : List ℕ) (at n texts used : ℕ) (h : Held) : Type 0 where
   pub filed : ℕ
-  pub holds : Holds w at (record { len = n; used = used; filed = filed }) (with_text h (part at n w))
+  pub holds : Holds w at (record { len = n; blocks = record { used = used; filed = filed } }) (with_text h (part at n w))
   pub well-made : WellMade (with_text h (part at n w))
   pub short : length (in_full (with_text h (part at n w))) ≤ most_symbols
   pub many : texts ≡ length (texts_of h)
@@ -53,7 +52,7 @@ pub record Carried (w : List ℕ) (p : Progress) (texts used : ℕ) : Type 0 whe
 
 -- ---- putting back
 -- a text that has been refused before
-pub back-refused : {w : List ℕ} {p : Progress} (f : List ℕ → Result (List ℕ)) (k : Refusal) → p ≡ Refused k → Answered w w p p f
+pub back-refused : {w : List ℕ} {p : Progress} (f : List ℕ → Result (List ℕ)) (k : Refusal) → p ≡ Err k → Answered w w p p f
 back-refused {w} {p} f k e =
     record { answer = ap (λ q. shown q w) e ∙ ap (λ q. shown q w then f) (sym e); long = refl; placed = subst Placed (sym e) tt }
 
@@ -68,7 +67,7 @@ module _ {w : List ℕ} {p : Progress} {texts used from n : ℕ} {h : Held} (car
   other = ⊎_elim (λ z. omega arith) (λ z. omega arith) (placed-text carries.ready e).0
 
   -- no block is held
-  pub back_none : used ≡ 0 → Answered w w p (Text from n) (λ t. put_back (with_text h t))
+  pub back_none : used ≡ 0 → Answered w w p p (λ t. put_back (with_text h t))
   back_none z =
       let made = marked.well-made in
       let many = used-symbols marked.holds made in
@@ -76,9 +75,9 @@ module _ {w : List ℕ} {p : Progress} {texts used from n : ℕ} {h : Held} (car
       let same : in_full (with_text h (part from n w)) ≡ part from n w =
       in-full-order made ∙ ap₂ (λ texts romans. by_order texts romans (part from n w)) none.0 none.1 ∙ ap (filled text_mark []) (filled_none roman_mark (part from n w)) ∙ filled_none text_mark (part from n w) in
       record {
-        answer = sym (ap (λ q. shown q w then (λ t. put_back (with_text h t))) e ∙ ap passed same);
+        answer = ap (λ q. shown q w) e ∙ sym (ap (λ q. shown q w then (λ t. put_back (with_text h t))) e ∙ ap passed same);
         long = refl;
-        placed = placed-text carries.ready e;
+        placed = carries.ready.placed;
       }
 
   pub romans-asked : Back w from n (most_symbols - from) roman_mark texts
@@ -87,10 +86,10 @@ module _ {w : List ℕ} {p : Progress} {texts used from n : ℕ} {h : Held} (car
 
   module _
       {w' : List ℕ} {half : ℕ}
-      (a : Appended w w' (most_symbols - from) most_symbols 0 half (filled roman_mark (stored_from w texts (count roman_mark (part from n w))) (part from n w)))
+      (a : Appended w w' (text_from (most_symbols - from) 0) (text_from (most_symbols - from) half) (filled roman_mark (stored_from w texts (count roman_mark (part from n w))) (part from n w)))
     where
-      romans : Appended w w' (most_symbols - from) most_symbols 0 half (filled roman_mark (stored_from w (length (texts_of h)) (count roman_mark (part from n w))) (part from n w))
-      romans = subst (λ k. Appended w w' (most_symbols - from) most_symbols 0 half (filled roman_mark (stored_from w k (count roman_mark (part from n w))) (part from n w))) marked.many a
+      romans : Appended w w' (text_from (most_symbols - from) 0) (text_from (most_symbols - from) half) (filled roman_mark (stored_from w (length (texts_of h)) (count roman_mark (part from n w))) (part from n w))
+      romans = subst (λ k. Appended w w' (text_from (most_symbols - from) 0) (text_from (most_symbols - from) half) (filled roman_mark (stored_from w k (count roman_mark (part from n w))) (part from n w))) marked.many a
 
       half-fits : half ≤ most_symbols
       half-fits =
@@ -98,7 +97,7 @@ module _ {w : List ℕ} {p : Progress} {texts used from n : ℕ} {h : Held} (car
           let s = half-short marked.well-made in let m = marked.short in
           omega arith
 
-      away : Apart (most_symbols - from) half from most_symbols
+      away : Apart (most_symbols - from) half (text_from from 0)
       away = let s = half-fits in ⊎_elim (λ z. inr (omega arith)) (λ z. inl (omega arith)) (placed-text carries.ready e).0
 
       pub texts-asked : Back w' (most_symbols - from) half from text_mark 0
@@ -106,7 +105,7 @@ module _ {w : List ℕ} {p : Progress} {texts used from n : ℕ} {h : Held} (car
 
       pub back_whole :
           {w'' : List ℕ} {len : ℕ}
-          → Appended w' w'' from most_symbols 0 len (filled text_mark (stored_from w' 0 (count text_mark (part (most_symbols - from) half w'))) (part (most_symbols - from) half w'))
+          → Appended w' w'' (text_from from 0) (text_from from len) (filled text_mark (stored_from w' 0 (count text_mark (part (most_symbols - from) half w'))) (part (most_symbols - from) half w'))
           → Answered w w'' p (Text from len) (λ t. put_back (with_text h t))
       back_whole {w''} {len} b =
           let whole = all_back marked.holds marked.well-made region other (placed-regions carries.ready e).apart romans half-fits b in
@@ -114,7 +113,7 @@ module _ {w : List ℕ} {p : Progress} {texts used from n : ℕ} {h : Held} (car
           let fits : len ≤ most_symbols = omega arith in
           let la = appended-long a in let long = carries.ready.long in let r = region in
           record {
-            answer = ap passed (appended-text whole (omega arith) fits)
+            answer = ap passed (appended-text whole refl (omega arith) fits)
                 ∙ sym (ap (λ q. shown q w then (λ t. put_back (with_text h t))) e);
             long = appended-long b ∙ la;
             placed = ((placed-text carries.ready e).0, fits);
@@ -136,7 +135,7 @@ held-sized extra f h e made =
 
 module _
     {w w₁ w₂ : List ℕ} {r : OutsideText} {p : Progress} {h : Held} {f : List ℕ → Result (List ℕ)}
-    (from : HeldFrom w w₁ r h) (staged : StagedWithin w₁ w₂ (Text r.at r.len) p r.extra f)
+    (from : HeldFrom w w₁ r h) (staged : StagedWithin w₁ w₂ (Ok r.text) p r.extra f)
     (made : (t : List ℕ) → f h.text ≡ passed t → WellMade (with_text h t))
   where
     done : shown p w₂ ≡ f h.text

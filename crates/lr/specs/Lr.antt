@@ -1,9 +1,8 @@
 -- The turns of convert_lr, a rewriting of calls whose delimiters hang on the first symbol inside. Assumes nothing.
---     Ended           what the loop has come to: the finished text, or number 8
+--     EndedBy         what the loop has come to: the finished text, or number 8
 use Rattle.std.specs.Prelude.{◌≡◌, refl, Bool, true, false, ◌&&◌, ◌||◌, List, ◌∷◌, ◌++◌, ℕ, pred, ◌+◌, ◌-◌, ◌*◌, ◌≤◌, ◌<◌, eqb, length, get_or, take, drop}
-use Rattle.std.proofs.Common.{sym, ap, ◌∙◌, subst, arith, length-take, length-drop, length-append, drop-drop, length-take-le, ne_eqb}
+use Rattle.std.proofs.Common.{sym, ap, ◌∙◌, subst, arith, length-take, length-drop, length-append, drop-drop, length-take-le}
 use Rattle.std.proofs.Math.Option.{Option, none, some}
-use Prim.Native.Char.{code}
 use Rattle.std.proofs.Math.Decide.{dec_lt}
 use Rattle.spec.specs.Symbols.{bytes, is, head, past, find}
 use Rattle.spec.specs.Sweep.{sweep, reached}
@@ -14,15 +13,17 @@ use Rattle.spec.specs.Laws.Symbols.{head-drop, past-drop}
 use Rattle.spec.specs.Laws.Sweep.{Waits, sweep-absent, reached-absent}
 use Rattle.spec.specs.Laws.Absent.{no_bare, calling-waits}
 use Rattle.text_symbols.specs.Parts.{part, length_part, sub_part, whole_part}
+use Rattle.text.specs.declared.writer.Writer.{Writer}
 use Rattle.text.specs.Stage.{grown-short}
 use Rattle.text.specs.Writer.{most_written, Appended}
 use Rattle.text.specs.Sweep.{Sweeping, rest_from, symbols-read}
-use Rattle.text_search.specs.declared.Found.{Found}
-use Rattle.text_search.specs.declared.Found.TheVariants.{At, Nothing}
+use Rattle.text_search.specs.Search.{Found}
+use Rattle.std.specs.Prelude.{Option as Maybe, Some, None, MatchOption, is_some as found_any}
 use Rattle.call_rewriting.specs.Delimiters.{Called, inner_at, call-read, call_fits}
 use Rattle.lr.specs.Reached.{comes, comes-turn}
-use Rattle.lr.specs.declared.Ended.{Ended}
-use Rattle.lr.specs.declared.Ended.TheVariants.{Length, Bare}
+use Rattle.std.specs.Prelude.{Result, Ok, Err}
+use Rattle.text.specs.declared.Refusal.{Refusal}
+use Rattle.text.specs.declared.Refusal.TheVariants.{BareDelimiter}
 
 -- what is written for what stands inside, with the delimiters of a first symbol
 abbrev pub sized_by : List ℕ → Option Delimiters → List ℕ
@@ -36,21 +37,12 @@ abbrev pub lr_name : List ℕ
 lr_name = bytes "lr("
 
 -- ---- the delimiters of a first symbol
-abbrev pub is_delimiter : ℕ → Bool
-is_delimiter x = is "(" x || (is "|" x || (is "[" x || is "{" x))
+abbrev pub delimits : ℕ → Bool
+delimits x = elim (delimiters x) [ some d ↦ true | none ↦ false ]
 
-pub delimiter-is : (x : ℕ) → elim (delimiters x) [ some d ↦ true | none ↦ false ] ≡ is_delimiter x
-delimiter-is x = go (is "(" x) refl (is "|" x) refl (is "[" x) refl (is "{" x) refl
-  where
-    go : (a : Bool) → is "(" x ≡ a → (b : Bool) → is "|" x ≡ b → (c : Bool) → is "[" x ≡ c → (d : Bool) → is "{" x ≡ d → elim (delimiters x) [ some d ↦ true | none ↦ false ] ≡ is_delimiter x
-    go true e b f c g d h = rw e
-    go false e true f c g d h = rw (e, f)
-    go false e false f true g d h = rw (e, f, g)
-    go false e false f false g true h = rw (e, f, g, h)
-    go false e false f false g false h = rw (e, f, g, h)
-
-pub no-delimiter : (x : ℕ) → (x ≡ code "(" → ⊥) → (x ≡ code "|" → ⊥) → (x ≡ code "[" → ⊥) → (x ≡ code "{" → ⊥) → delimiters x ≡ none
-no-delimiter x a b c d = rw (ne_eqb x (code "(") a, ne_eqb x (code "|") b, ne_eqb x (code "[") c, ne_eqb x (code "{") d, delimiters)
+pub delimits-met : {A : Type 0} (d : A → Delimiters) (x : ℕ) (r : Maybe A) → MatchOption r (delimiters x ≡ none) (λ p. delimiters x ≡ some (d p)) → found_any r ≡ delimits x
+delimits-met d x (Some p) e = ap (λ o. elim o [ some d ↦ true | none ↦ false ]) (sym e)
+delimits-met d x None e = ap (λ o. elim o [ some d ↦ true | none ↦ false ]) (sym e)
 
 -- what stands between the first and the last symbol inside
 pub middle : (inside k : ℕ) (w : List ℕ) → inside + k ≤ length w → part (inside + 1) (k - 2) w ≡ take (pred (pred (length (part inside k w)))) (past (part inside k w))
@@ -70,13 +62,13 @@ middle inside k w h = go (dec_lt 1 k)
 
 -- the delimiters of the first symbol have been written around the middle
 pub sized-by-first :
-    {w w' : List ℕ} {to count count' : ℕ} (inside k m first code : ℕ) {a b : List ℕ} → inside + k ≤ length w → m ≡ k - 2 → first ≡ code
-    → delimiters code ≡ some (record { left = a; right = b })
-    → Appended w w' to most_symbols count count' (a ++ part (inside + 1) m w ++ b)
-    → Appended w w' to most_symbols count count' (sized_by (part inside k w) (delimiters first))
-sized-by-first {w} {w'} {to} {count} {count'} inside k m first code {a} {b} h few same is_some appended =
-    subst (λ t. Appended w w' to most_symbols count count' t)
-    (ap (λ t. a ++ t ++ b) (ap (λ j. part (inside + 1) j w) few ∙ middle inside k w h) ∙ ap (sized_by (part inside k w)) (sym is_some) ∙ ap (λ x. sized_by (part inside k w) (delimiters x)) (sym same))
+    {w w' : List ℕ} {o o' : Writer} (inside k m first : ℕ) {a b : List ℕ} → inside + k ≤ length w → m ≡ k - 2
+    → delimiters first ≡ some (record { left = a; right = b })
+    → Appended w w' o o' (a ++ part (inside + 1) m w ++ b)
+    → Appended w w' o o' (sized_by (part inside k w) (delimiters first))
+sized-by-first {w} {w'} {o} {o'} inside k m first {a} {b} h few is_some appended =
+    subst (λ t. Appended w w' o o' t)
+    (ap (λ t. a ++ t ++ b) (ap (λ j. part (inside + 1) j w) few ∙ middle inside k w h) ∙ ap (sized_by (part inside k w)) (sym is_some))
     appended
 
 -- what is written is little beside the symbols of the call
@@ -102,24 +94,24 @@ sized-few inner x k bound = go (is "(" x) refl (is "|" x) refl (is "[" x) refl (
 -- ---- number 8
 -- `bare_delimiter` by what stands inside
 abbrev bare_in : Option (List ℕ) → Bool
-bare_in o = elim o [ some inner ↦ eqb (length inner) 1 && elim (delimiters (head inner)) [ some d ↦ true | none ↦ false ] | none ↦ false ]
+bare_in o = elim o [ some inner ↦ eqb (length inner) 1 && delimits (head inner) | none ↦ false ]
 
 pub lr-waits : Waits lr_name lr
 lr-waits = calling-waits (λ s. s) lr_name latex_lr
 
-pub record Bared (w w' : List ℕ) (from n to : ℕ) : Type 0 where
+pub record Bared (w w' : List ℕ) (from n : ℕ) (o : Writer) : Type 0 where
   pub reaches : reached bare_delimiter lr 0 0 (part from n w) ≡ true
   pub out : List ℕ
-  pub count : ℕ
-  pub appended : Appended w w' to most_symbols 0 count out
+  pub writer : Writer
+  pub appended : Appended w w' o writer out
 
-pub record Lengthened (w w' : List ℕ) (from n to count : ℕ) : Type 0 where
+pub record Finished (w w' : List ℕ) (from n : ℕ) (o o' : Writer) : Type 0 where
   pub reaches : reached bare_delimiter lr 0 0 (part from n w) ≡ false
-  pub appended : Appended w w' to most_symbols 0 count (sweep lr 0 0 (part from n w))
+  pub appended : Appended w w' o o' (sweep lr 0 0 (part from n w))
 
-abbrev pub EndedBy : List ℕ → List ℕ → ℕ → ℕ → ℕ → Ended → Type 0
-EndedBy w w' from n to (Length count) = Lengthened w w' from n to count
-EndedBy w w' from n to Bare = Bared w w' from n to
+abbrev pub EndedBy : List ℕ → List ℕ → ℕ → ℕ → Writer → Result Writer Refusal → Type 0
+EndedBy w w' from n o (Ok o') = Finished w w' from n o o'
+EndedBy w w' from n o (Err why) = (why ≡ BareDelimiter) × Bared w w' from n o
 
 pub convert-lr-bare : (s : List ℕ) → reached bare_delimiter lr 0 0 s ≡ true → convert_lr s ≡ refused 8
 unfolding convert_lr
@@ -138,8 +130,8 @@ lr-absent s short absent =
 
 -- ---- a turn of the loop: `call_at` has looked at the rest of the text
 module _
-    {w₀ w : List ℕ} {from n to cap count₀ count i : ℕ}
-    (sweeping : Sweeping lr w₀ w from n to cap count₀ count i) (more : i < n)
+    {w₀ w : List ℕ} {from n : ℕ} {o₀ o : Writer} {i : ℕ}
+    (sweeping : Sweeping lr w₀ w from n o₀ o i) (more : i < n)
     {r : Found} (called : Called (λ s. s) lr_name (rest_from from n i w) r)
   where
     abbrev source : List ℕ
@@ -148,7 +140,7 @@ module _
     inside-i : i < length source
     inside-i = let l = length_part from n w₀ sweeping.regions.source in omega arith
 
-    pub comes-past-no-call : r ≡ Nothing → comes bare_delimiter lr source i ≡ comes bare_delimiter lr source (i + 1)
+    pub comes-past-no-call : r ≡ None → comes bare_delimiter lr source i ≡ comes bare_delimiter lr source (i + 1)
     comes-past-no-call e =
         let none_here : call_at (λ s. s) lr_name (drop i source) ≡ none = call-read sweeping more called ∙ ap (inner_at lr_name (drop i source)) e in
         let next : i + 1 + 0 ≡ i + 1 = omega arith in
@@ -156,7 +148,7 @@ module _
         ∙ ap (λ o. bare_in o || comes bare_delimiter lr source (i + 1 + 0)) none_here
         ∙ ap (comes bare_delimiter lr source) next
 
-    module _ {k : ℕ} (e : r ≡ At k) where
+    module _ {k : ℕ} (e : r ≡ Some k) where
       fits : i + 3 + k + 1 ≤ n
       fits = call_fits sweeping more called e
 
@@ -177,19 +169,18 @@ module _
         pub first-is : first ≡ head (part (from + (i + 3)) k w)
         first-is = first_read ∙ ap (λ s. get_or s 0 0) (whole_part (from + (i + 3)) k w) ∙ sym (head-drop (part (from + (i + 3)) k w) 0)
 
-        bare-is : bare_delimiter (drop i source) ≡ eqb k 1 && is_delimiter first
+        bare-is : bare_delimiter (drop i source) ≡ eqb k 1 && delimits first
         bare-is =
             ap bare_in call-here
-            ∙ ap (λ m. eqb m 1 && elim (delimiters (head (part (from + (i + 3)) k w))) [ some d ↦ true | none ↦ false ]) inner-long
-            ∙ ap (λ x. eqb k 1 && elim (delimiters x) [ some d ↦ true | none ↦ false ]) (sym first-is)
-            ∙ ap (λ b. eqb k 1 && b) (delimiter-is first)
+            ∙ ap (λ m. eqb m 1 && delimits (head (part (from + (i + 3)) k w))) inner-long
+            ∙ ap (λ x. eqb k 1 && delimits x) (sym first-is)
 
-        pub bare-here : eqb k 1 && is_delimiter first ≡ true → comes bare_delimiter lr source i ≡ true
+        pub bare-here : eqb k 1 && delimits first ≡ true → comes bare_delimiter lr source i ≡ true
         bare-here t =
             comes-turn bare_delimiter lr source i inside-i refl
             ∙ ap (λ b. b || comes bare_delimiter lr source (i + 1 + (lr (get_or (0 ∷ source) i 0) (drop i source)).more)) (bare-is ∙ t)
 
-        pub sized-here : eqb k 1 && is_delimiter first ≡ false → comes bare_delimiter lr source i ≡ comes bare_delimiter lr source (i + 3 + k + 1)
+        pub sized-here : eqb k 1 && delimits first ≡ false → comes bare_delimiter lr source i ≡ comes bare_delimiter lr source (i + 3 + k + 1)
         sized-here t =
             let l = inner-long in
             let next : i + 1 + (3 + length (part (from + (i + 3)) k w)) ≡ i + 3 + k + 1 = omega arith in

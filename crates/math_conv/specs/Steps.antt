@@ -10,13 +10,13 @@ use Rattle.spec.specs.Result.{Result, refused, ◌then◌}
 use Rattle.spec.specs.Laws.Admission.{Admission, not-admitted, is-admitted, admission}
 use Rattle.spec.specs.Pipeline.{least_work, definitions_or, admitted, typst_to_latex, fitting, converted, answer_of, output_after, work_after, Call}
 use Rattle.text.specs.Stage.{shown, Answered}
-use Rattle.text.specs.declared.Progress.{Progress}
+use Rattle.text.specs.Stage.{Progress}
 use Rattle.held_laws.specs.Marks.{has_mark}
 use Rattle.held_laws.specs.Instances.{any-unmarked, refused-not, passed-one}
 use Rattle.stage_laws.specs.Answers.{converted-clears}
 use Rattle.stages.specs.Fit.{Admissible}
 use Rattle.entry_ends.specs.Answer.{meaning, Admits, PutOut}
-use Rattle.entry_ends.specs.declared.Answer.{Answer}
+use Rattle.entry_ends.specs.Answer.{Answer}
 
 -- ---- admission
 pub admits-fit : {formula table : List ℕ} {field : ℕ} {w w' : List ℕ} {p : Progress} → Admits formula table field w w' p → Admissible table (shown p w')

@@ -26,7 +26,7 @@ pub fn typst_to_latex(
     ensures { Call formula.now table.now display field work.old output.old (meaning result) work.new output.new }
 {
     if work.len() < LEAST_WORK {
-        return Answer::Refused(Refusal::NarrowWork);
+        return Err(Refusal::NarrowWork);
     }
     let admitted = admit(work, formula, table, field);
     let latex = convert(work, admitted, table, display, field);

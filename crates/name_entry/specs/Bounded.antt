@@ -55,9 +55,6 @@ bounded_match b pattern s = somewhere (bounded_at b pattern) 0 s
 
 -- ---- a place, as the code looks at it
 module _ (b : Bounds) (pattern : List ℕ) (before : ℕ) (s : List ℕ) where
-  pub stands-not : starts pattern s ≡ false → false ≡ stands b pattern before s
-  stands-not e = rw e
-
   pub stands-met : starts pattern s ≡ true → allowed b before (head (drop (length pattern) s)) ≡ stands b pattern before s
   stands-met e = rw e
 

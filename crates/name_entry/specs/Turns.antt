@@ -6,6 +6,7 @@ use Rattle.spec.specs.Symbols.{starts}
 use Rattle.spec.specs.Laws.Symbols.{starts-long}
 use Rattle.spec.specs.Laws.Booleans.{and_left}
 use Rattle.text_symbols.specs.Parts.{part, length_part}
+use Rattle.text.specs.declared.writer.Writer.{Writer}
 use Rattle.text.specs.Writer.{most_written, Appended}
 use Rattle.text.specs.Sweep.{Sweeping, source-read, sweeping-more, sweeping-kept}
 use Rattle.name_entry.specs.declared.bounds.Bounds.{Bounds}
@@ -17,8 +18,8 @@ written-few false fair = let h = fair.few in omega arith
 
 -- a turn of the loop: whether the pattern stands at place i has been asked of the text, as the code reads it
 module _
-    (b : Bounds) (pattern fresh : List ℕ) {w₀ w : List ℕ} {from n to cap count₀ count i : ℕ}
-    (sweeping : Sweeping (bounded b pattern fresh) w₀ w from n to cap count₀ count i) (more : i < n)
+    (b : Bounds) (pattern fresh : List ℕ) {w₀ w : List ℕ} {from n : ℕ} {o₀ o : Writer} {i : ℕ}
+    (sweeping : Sweeping (bounded b pattern fresh) w₀ w from n o₀ o i) (more : i < n)
     {met : Bool} (test : met ≡ stands b pattern (get_or (0 ∷ part from (from + n - from) w) i 0) (drop i (part from (from + n - from) w)))
   where
     abbrev before : ℕ
@@ -34,8 +35,8 @@ module _
     turn-here = ap (λ t. cond t (taken (length pattern) (cond (spares b pattern before here) pattern fresh)) (kept here)) stands_here
 
     pub copied-here :
-        {w' : List ℕ} {count' : ℕ} → met ≡ false → Appended w w' to cap count count' (get_or w (from + i) 0 ∷ [])
-        → Sweeping (bounded b pattern fresh) w₀ w' from n to cap count₀ count' (i + 1)
+        {w' : List ℕ} {o' : Writer} → met ≡ false → Appended w w' o o' (get_or w (from + i) 0 ∷ [])
+        → Sweeping (bounded b pattern fresh) w₀ w' from n o₀ o' (i + 1)
     copied-here other a = sweeping-kept sweeping more (rw other at turn-here) a
 
     module _ (fair : EntryTextsFit pattern fresh) (stood : met ≡ true) where
@@ -48,14 +49,14 @@ module _
           omega arith
 
       pub written-here :
-          {w' : List ℕ} {count' : ℕ} {spared : Bool} → spared ≡ spares b pattern (get_or (0 ∷ part from (from + n - from) w) i 0) (drop i (part from (from + n - from) w))
-          → Appended w w' to cap count count' (cond spared pattern fresh)
-          → Sweeping (bounded b pattern fresh) w₀ w' from n to cap count₀ count' (i + length pattern)
-      written-here {w'} {count'} {spared} e a =
+          {w' : List ℕ} {o' : Writer} {spared : Bool} → spared ≡ spares b pattern (get_or (0 ∷ part from (from + n - from) w) i 0) (drop i (part from (from + n - from) w))
+          → Appended w w' o o' (cond spared pattern fresh)
+          → Sweeping (bounded b pattern fresh) w₀ w' from n o₀ o' (i + length pattern)
+      written-here {w'} {o'} {spared} e a =
           let h = fair.positive in
           let next : i + 1 + pred (length pattern) ≡ i + length pattern = omega arith in
           let spares-here : spares b pattern before here ≡ spared = ap (λ t. spares b pattern (get_or (0 ∷ t) i 0) (drop i t)) (sym (source-read sweeping)) ∙ sym e in
-          subst (λ j. Sweeping (bounded b pattern fresh) w₀ w' from n to cap count₀ count' j) next
+          subst (λ j. Sweeping (bounded b pattern fresh) w₀ w' from n o₀ o' j) next
           (sweeping-more sweeping more (taken (length pattern) (cond spared pattern fresh))
           ((rw stood at turn-here) ∙ ap (λ t. taken (length pattern) (cond t pattern fresh)) spares-here)
           a (written-few spared fair))

@@ -16,29 +16,30 @@ pub enum Bounds {
     Defined,
 }
 
-// Whether the pattern is taken between these symbols.
-pub fn is_allowed(bounds: Bounds, before: u8, behind: u8) -> bool
-    ensures { result ≡ allowed bounds before behind }
-{
-    match bounds {
-        Bounds::Literal => true,
-        Bounds::Greek => true,
-        Bounds::Word => !text_symbols::is_word(before),
-        Bounds::Capital => !text_symbols::is_word(before) & !text_symbols::is_word(behind),
-        Bounds::Defined => !text_symbols::is_word(before) & !text_symbols::is_letter(behind),
+// Each kind has one line here, so a closure or a trait in place of the match is no plainer.
+impl Bounds {
+    // Whether the pattern is taken between these symbols.
+    pub fn is_allowed(self, before: u8, behind: u8) -> bool
+        ensures { result ≡ allowed self before behind }
+    {
+        match self {
+            Bounds::Literal | Bounds::Greek => true,
+            Bounds::Word => !text_symbols::is_word(before),
+            Bounds::Capital => !text_symbols::is_word(before) & !text_symbols::is_word(behind),
+            Bounds::Defined => !text_symbols::is_word(before) & !text_symbols::is_letter(behind),
+        }
     }
-}
 
-// Whether the pattern, where it is taken, is left as it is.
-pub fn is_left(bounds: Bounds, before: u8, behind: u8) -> bool
-    ensures { result ≡ left bounds before behind }
-{
-    match bounds {
-        Bounds::Literal => false,
-        Bounds::Greek => (before == b'\\')
-            | (text_symbols::is_letter(before) | text_symbols::is_letter(behind)),
-        Bounds::Word => (before == b'\\') | text_symbols::is_alnum(behind),
-        Bounds::Capital => before == b'\\',
-        Bounds::Defined => false,
+    // Whether the pattern, where it is taken, is left as it is.
+    pub fn is_left(self, before: u8, behind: u8) -> bool
+        ensures { result ≡ left self before behind }
+    {
+        match self {
+            Bounds::Literal | Bounds::Defined => false,
+            Bounds::Greek => (before == b'\\')
+                | (text_symbols::is_letter(before) | text_symbols::is_letter(behind)),
+            Bounds::Word => (before == b'\\') | text_symbols::is_alnum(behind),
+            Bounds::Capital => before == b'\\',
+        }
     }
 }

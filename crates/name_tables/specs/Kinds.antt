@@ -1,21 +1,26 @@
 -- Tables of rules: the rule of a row for each kind of table, and the rows one after another.
 --     row_rule, row_match, bounds_of     the definitions' rule of a row and its match, and the code's
+--     fair_rows              no row is empty or too long
 --     sized_rows             the rows of a table in order, each a stage, while blocks are held or not
+--     RowsLeft               of them, so many have been applied
 -- Assumes nothing.
-use Rattle.std.specs.Prelude.{◌≡◌, refl, Bool, true, false, cond, ◌||◌, List, [], ◌∷◌, ℕ, ◌+◌, ◌-◌, ◌*◌, ◌≤◌, ◌<◌, get_or}
+use Rattle.std.specs.Prelude.{◌≡◌, refl, Bool, true, false, cond, ◌&&◌, ◌||◌, List, [], ◌∷◌, ℕ, zero, suc, ◌+◌, ◌≤◌, ◌<◌, leb, map, length, get_or, drop}
 use Rattle.std.proofs.Math.Path.{ap}
-use Rattle.std.proofs.Common.{◌∙◌, subst, subst₂, arith}
-use Rattle.spec.specs.Symbols.{is}
+use Rattle.std.proofs.Common.{◌∙◌, arith, leb-true, add-one, drop-cons}
+use Rattle.std.proofs.Math.ListN.{drop_of_length-le}
+use Rattle.std.specs.List.{list_any}
+use Rattle.spec.specs.Symbols.{is, any}
 use Rattle.spec.specs.Sweep.{Rule, sweep, replacing, replace}
 use Rattle.spec.specs.Result.{Result, passed, refused, ◌then◌, stage}
+use Rattle.spec.specs.Laws.Booleans.{and_left, and_right}
 use Rattle.spec.specs.Rows.{Row}
 use Rattle.spec.specs.Words.{greek, word, capital, literal, word_or_literal, replace_rows, capitals}
 use Rattle.spec.specs.Matches.{Match, literal_match, greek_match, word_match, word_or_literal_match, capital_match}
-use Rattle.text_symbols.specs.Parts.{length_part}
 use Rattle.name_entry.specs.declared.bounds.Bounds.{Bounds}
-use Rattle.name_entry.specs.declared.bounds.Bounds.TheVariants as around
-use Rattle.text.specs.Stage.{Ready}
-use Rattle.text.specs.Untouched.{Untouched, untouched-same, untouched-alike}
+use Rattle.name_entry.specs.declared.bounds.Bounds.TheVariants.{Literal, Greek, Word, Capital, Defined}
+use Rattle.text.specs.Writer.{most_written}
+use Rattle.text.specs.Stage.{Ready, Progress}
+use Rattle.text.specs.Untouched.{Untouched, untouched-same, untouched-alike, EntriesLeft, entries-more, entries-all}
 use Rattle.name_entry.specs.Bounded.{
   EntryTextsFit,
   bounded,
@@ -31,103 +36,126 @@ use Rattle.name_entry.specs.Bounded.{
   word-matches,
   capital-matches,
 }
-use Rattle.name_entry.specs.Sized.{sized, sized-none, FitsWithBlocks, StagedWithin, unmatched-within, within-alike}
+use Rattle.name_entry.specs.Sized.{sized, sized-none, FitsWithBlocks, StagedWithin, unmatched-within, within-alike, Remaining, remaining-step, remaining-all}
 use Rattle.name_entry.specs.Seen.{nowhere, nowhere-unmatched}
-use Rattle.text.specs.declared.Progress.{Progress}
-use Rattle.name_greek.specs.Rows.{row_at, rows_from, fair_row, row_within, typst-some, typst-fits, latex-fits, row_next, rows-done}
-use Rattle.name_tables.specs.declared.NameKind.{NameKind}
-use Rattle.name_tables.specs.declared.NameKind.TheVariants.{Literal, Greek, Word, Capital}
+use Rattle.name_greek.specs.declared.Row.{Row as CodeRow}
+use Rattle.name_greek.specs.Rows.{row_of, rows_of}
 
-abbrev pub row_rule : NameKind → Row → Rule
+abbrev pub row_rule : Bounds → Row → Rule
 row_rule Literal r = replacing r.typst r.latex
 row_rule Greek r = greek r
 row_rule Word r = word_or_literal r
 row_rule Capital r = capital r
+row_rule Defined r = bounded Defined r.typst r.latex
 
-abbrev pub row_match : NameKind → Row → Match
+abbrev pub row_match : Bounds → Row → Match
 row_match Literal r = literal_match r
 row_match Greek r = greek_match r
 row_match Word r = word_or_literal_match r
 row_match Capital r = capital_match r
+row_match Defined r = bounded_match Defined r.typst
 
-abbrev pub bounds_of : NameKind → List ℕ → Bounds
-bounds_of Literal typst = around.Literal
-bounds_of Greek typst = around.Greek
-bounds_of Word typst = cond (literal typst) around.Literal around.Word
-bounds_of Capital typst = around.Capital
+abbrev pub bounds_of : Bounds → List ℕ → Bounds
+bounds_of Literal typst = Literal
+bounds_of Greek typst = Greek
+bounds_of Word typst = cond (literal typst) Literal Word
+bounds_of Capital typst = Capital
+bounds_of Defined typst = Defined
 
-pub rule-bounded : (kind : NameKind) (r : Row) (s : List ℕ) → sweep (bounded (bounds_of kind r.typst) r.typst r.latex) 0 0 s ≡ sweep (row_rule kind r) 0 0 s
+pub rule-bounded : (b : Bounds) (r : Row) (s : List ℕ) → sweep (bounded (bounds_of b r.typst) r.typst r.latex) 0 0 s ≡ sweep (row_rule b r) 0 0 s
 rule-bounded Literal r s = literal-bounded r.typst r.latex s
 rule-bounded Greek r s = greek-bounded r s
 rule-bounded Capital r s = capital-bounded r s
+rule-bounded Defined r s = refl
 rule-bounded Word r s = go (literal r.typst)
   where
-    go : (t : Bool) → sweep (bounded (cond t around.Literal around.Word) r.typst r.latex) 0 0 s ≡ sweep (cond t (replacing r.typst r.latex) (word r)) 0 0 s
+    go : (t : Bool) → sweep (bounded (cond t Literal Word) r.typst r.latex) 0 0 s ≡ sweep (cond t (replacing r.typst r.latex) (word r)) 0 0 s
     go true = literal-bounded r.typst r.latex s
     go false = word-bounded r s
 
-match-bounded : (kind : NameKind) (r : Row) (s : List ℕ) → bounded_match (bounds_of kind r.typst) r.typst s ≡ row_match kind r s
+match-bounded : (b : Bounds) (r : Row) (s : List ℕ) → bounded_match (bounds_of b r.typst) r.typst s ≡ row_match b r s
 match-bounded Literal r s = literal-matches r.typst s
 match-bounded Greek r s = greek-matches r s
 match-bounded Capital r s = capital-matches r s
+match-bounded Defined r s = refl
 match-bounded Word r s = go (literal r.typst)
   where
-    go : (t : Bool) → bounded_match (cond t around.Literal around.Word) r.typst s ≡ cond {A = Match} t (literal_match r) (word_match r) s
+    go : (t : Bool) → bounded_match (cond t Literal Word) r.typst s ≡ cond {A = Match} t (literal_match r) (word_match r) s
     go true = literal-matches r.typst s
     go false = word-matches r s
 
--- a row of the table can be applied
-pub row-fair : (table : List ℕ) (k : ℕ) → fair_row table k ≡ true → EntryTextsFit (row_at table k).typst (row_at table k).latex
-row-fair table k e =
-    let w = row_within table k e in let a = typst-fits table k e in let b = latex-fits table k e in let c = typst-some table k e in
-    let t = length_part (k * 36 + 1) (get_or table (k * 36) 0) table (omega arith) in
-    let l = length_part (k * 36 + 16 + 1) (get_or table (k * 36 + 16) 0) table (omega arith) in
-    record { positive = omega arith; short = omega arith; few = omega arith }
+-- ---- rows that can be applied: a test, which antt computes for each table
+abbrev pub fair_row : Row → Bool
+fair_row r = leb 1 (length r.typst) && (leb (length r.typst) most_written && leb (length r.latex) most_written)
+
+abbrev pub fair_rows : List Row → Bool
+fair_rows [] = true
+fair_rows (r ∷ rs) = fair_row r && fair_rows rs
+
+pub row-fair : (r : Row) → fair_row r ≡ true → EntryTextsFit r.typst r.latex
+row-fair r e =
+    let widths = and_right (leb 1 (length r.typst)) _ e in record {
+      positive = leb-true 1 (length r.typst) (and_left (leb 1 (length r.typst)) _ e);
+      short = leb-true (length r.typst) most_written (and_left (leb (length r.typst) most_written) _ widths);
+      few = leb-true (length r.latex) most_written (and_right (leb (length r.typst) most_written) _ widths);
+    }
 
 -- what is promised of a row
-abbrev pub RowApplied : List ℕ → List ℕ → Progress → Progress → ℕ → NameKind → Row → Type 0
-RowApplied w w' p p' extra kind row = StagedWithin w w' p p' extra (sized extra (sweep (row_rule kind row) 0 0)) × Untouched w w' p p' (row_match kind row ∷ [])
+abbrev pub RowApplied : List ℕ → List ℕ → Progress → Progress → ℕ → Bounds → Row → Type 0
+RowApplied w w' p p' extra b row = StagedWithin w w' p p' extra (sized extra (sweep (row_rule b row) 0 0)) × Untouched w w' p p' (row_match b row ∷ [])
 
 -- a row, as the code applies it
 pub row-applied :
-    (kind : NameKind) (row : Row) {w w' : List ℕ} {p p' : Progress} {extra : ℕ} {b : Bounds} {typst latex : List ℕ}
-    → typst ≡ row.typst → latex ≡ row.latex → b ≡ bounds_of kind typst
-    → StagedWithin w w' p p' extra (sized extra (sweep (bounded b typst latex) 0 0)) × Untouched w w' p p' (bounded_match b typst ∷ [])
-    → RowApplied w w' p p' extra kind row
-row-applied kind row {w} {w'} {p} {p'} {extra} {b} {typst} {latex} e f g a =
-    let by_row =
-    subst₂ (λ t l. StagedWithin w w' p p' extra (sized extra (sweep (bounded (bounds_of kind t) t l) 0 0)) × Untouched w w' p p' (bounded_match (bounds_of kind t) t ∷ [])) e f
-    (subst (λ c. StagedWithin w w' p p' extra (sized extra (sweep (bounded c typst latex) 0 0)) × Untouched w w' p p' (bounded_match c typst ∷ [])) g a)
-    in (
-      within-alike (sweep (row_rule kind row) 0 0) (rule-bounded kind row) by_row.0,
-      untouched-alike (λ s none. ap (λ t. t || false) (match-bounded kind row s) ∙ none) by_row.1,
-    )
+    (b : Bounds) (row : Row) {w w' : List ℕ} {p p' : Progress} {extra : ℕ} {chosen : Bounds} → chosen ≡ bounds_of b row.typst
+    → StagedWithin w w' p p' extra (sized extra (sweep (bounded chosen row.typst row.latex) 0 0))
+    → Untouched w w' p p' (bounded_match chosen row.typst ∷ [])
+    → RowApplied w w' p p' extra b row
+row-applied b row e staged untouched = (
+  within-alike (sweep (row_rule b row) 0 0) (λ s. ap (λ c. sweep (bounded c row.typst row.latex) 0 0 s) e ∙ rule-bounded b row s) staged,
+  untouched-alike (λ s none. ap (λ c. bounded_match c row.typst s || false) e ∙ ap (λ t. t || false) (match-bounded b row s) ∙ none) untouched,
+)
 
 -- a row that is passed over, since its name is nowhere
 pub row-nowhere :
-    (kind : NameKind) (row : Row) {w : List ℕ} {p : Progress} (extra : ℕ) → EntryTextsFit row.typst row.latex → Ready w p → FitsWithBlocks extra p
+    (b : Bounds) (row : Row) {w : List ℕ} {p : Progress} (extra : ℕ) → EntryTextsFit row.typst row.latex → Ready w p → FitsWithBlocks extra p
     → nowhere p w row.typst ≡ true
-    → RowApplied w w p p extra kind row
-row-nowhere kind row {w} {p} extra fair ready within e =
-    let b = bounds_of kind row.typst in
-    row-applied kind row refl refl refl
-    (unmatched-within p extra ready within (bounded-keeps b fair) (nowhere-unmatched w p (bounded-at-pattern b row.typst) e), untouched-same)
+    → RowApplied w w p p extra b row
+row-nowhere b row {w} {p} extra fair ready within e =
+    let chosen = bounds_of b row.typst in
+    row-applied b row refl
+    (unmatched-within p extra ready within (bounded-keeps chosen fair) (nowhere-unmatched w p (bounded-at-pattern chosen row.typst) e)) untouched-same
 
 -- ---- the rows of a table
 unfoldable pub sized_rows : ℕ → (Row → Rule) → List Row → List ℕ → Result (List ℕ)
 sized_rows extra rule [] s = passed s
 sized_rows extra rule (r ∷ rs) s = sized extra (sweep (rule r) 0 0) s then sized_rows extra rule rs
 
-module _ (extra : ℕ) (rule : Row → Rule) (table : List ℕ) (k n : ℕ) (s : List ℕ) where
-  pub rows_step :
-      k < n
-      → sized_rows extra rule (rows_from table k (n - k)) s ≡ (sized extra (sweep (rule (row_at table k)) 0 0) s then sized_rows extra rule (rows_from table (k + 1) (n - (k + 1))))
-  unfolding sized_rows
-  rows_step h = ap (λ rs. sized_rows extra rule rs s) (row_next table k n h)
+-- a row that is left can be applied
+pub row-left-fair : (table : List CodeRow) (i : ℕ) (d : CodeRow) → fair_rows (rows_of table) ≡ true → i < length table → fair_row (row_of (get_or table i d)) ≡ true
+row-left-fair [] i d e h = absurd (omega arith)
+row-left-fair (r ∷ rs) zero d e h = and_left (fair_row (row_of r)) (fair_rows (rows_of rs)) e
+row-left-fair (r ∷ rs) (suc i) d e h = row-left-fair rs i d (and_right (fair_row (row_of r)) (fair_rows (rows_of rs)) e) (omega arith)
 
-  pub rows_end : n ≤ k → sized_rows extra rule (rows_from table k (n - k)) s ≡ passed s
+-- of a table, i rows have been applied
+pub record RowsLeft (w₀ w : List ℕ) (p₀ p : Progress) (extra : ℕ) (b : Bounds) (table : List CodeRow) (i : ℕ) : Type 0 where
+  pub remaining : Remaining w₀ w p₀ p extra (sized_rows extra (row_rule b) (rows_of table)) (sized_rows extra (row_rule b) (rows_of (drop i table)))
+  pub entries : EntriesLeft w₀ w p₀ p (map (row_match b) (rows_of table)) (map (row_match b) (rows_of (drop i table)))
+
+module _ {w₀ w : List ℕ} {p₀ p : Progress} {extra : ℕ} {b : Bounds} {table : List CodeRow} {i : ℕ} (left : RowsLeft w₀ w p₀ p extra b table i) where
+  pub rows-left-more : {w' : List ℕ} {p' : Progress} (d : CodeRow) → i < length table → RowApplied w w' p p' extra b (row_of (get_or table i d)) → RowsLeft w₀ w' p₀ p' extra b table (i + 1)
   unfolding sized_rows
-  rows_end h = ap (λ rs. sized_rows extra rule rs s) (rows-done table k n h)
+  rows-left-more d more applied =
+      let next : drop i table ≡ get_or table i d ∷ drop (i + 1) table = rw (add-one, drop-cons table i d) in
+      let rest = sized_rows extra (row_rule b) (rows_of (drop (i + 1) table)) in record {
+        remaining = remaining-step left.remaining rest applied.0 (λ s. ap (λ rs. sized_rows extra (row_rule b) (rows_of rs) s) next);
+        entries = entries-more (row_match b (row_of (get_or table i d)) ∷ []) _ left.entries (ap (λ rs. map (row_match b) (rows_of rs)) next) applied.1;
+      }
+
+  pub rows-left-none : length table ≤ i → StagedWithin w₀ w p₀ p extra (sized_rows extra (row_rule b) (rows_of table)) × Untouched w₀ w p₀ p (map (row_match b) (rows_of table))
+  unfolding sized_rows
+  rows-left-none none =
+      let end : drop i table ≡ [] = drop_of_length-le table none in
+      (remaining-all left.remaining (λ s. ap (λ rs. sized_rows extra (row_rule b) (rows_of rs) s) end), entries-all left.entries)
 
 -- with nothing held, they are the definitions' stages
 then_same : (r r' : Result (List ℕ)) (f g : List ℕ → Result (List ℕ)) → r ≡ r' → ((s : List ℕ) → f s ≡ g s) → (r then f) ≡ (r' then g)
@@ -151,3 +179,7 @@ rows-capital (r ∷ rs) s =
 -- ---- the test for words that are replaced wherever they stand
 abbrev pub special : ℕ → Bool
 special x = is "(" x || (is "|" x || is "." x)
+
+pub any-listed : (f : ℕ → Bool) (s : List ℕ) → list_any f s ≡ any f s
+any-listed f [] = refl
+any-listed f (x ∷ s) = ap (λ t. f x || t) (any-listed f s)

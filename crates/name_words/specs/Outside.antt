@@ -13,15 +13,14 @@ use Rattle.spec.specs.Rows.{Row, greek_letters, word_mappings}
 use Rattle.spec.specs.Held.{Held, with_text, hold_both, put_back}
 use Rattle.spec.specs.Words.{held_rows, convert_words}
 use Rattle.spec.specs.Laws.Booleans.{and_left, and_right}
-use Rattle.text.specs.Stage.{staged-then}
-use Rattle.text.specs.declared.Progress.{Progress}
+use Rattle.text.specs.Stage.{staged-then, Progress}
 use Rattle.held_laws.specs.WellMade.{WellMade}
 use Rattle.held_laws.specs.Rewriting.{Between, sweep-made}
 use Rattle.held_laws.specs.Instances.{fine_row, fine_rows, greek-fine, words-fine, greek-between, word-between, rows_made, refused-not}
 use Rattle.name_entry.specs.Sized.{StagedWithin}
 use Rattle.held_stages.specs.Outside.{Extra}
 use Rattle.held_stages.specs.Carried.{held-sized}
-use Rattle.name_tables.specs.declared.NameKind.TheVariants.{Greek, Word}
+use Rattle.name_entry.specs.declared.bounds.Bounds.TheVariants.{Greek, Word}
 use Rattle.name_tables.specs.Kinds.{row_rule, sized_rows}
 
 -- the text is put between the marks again

@@ -12,7 +12,7 @@ ghost use Rattle.text.specs.Stage.{Ready, Answered, Staged};
 ghost use Rattle.text.specs.Untouched.{Untouched};
 ghost use Rattle.held_stages.specs.Outside.{UnmarkedProgress};
 
-use name_tables::NameKind;
+use name_entry::Bounds;
 use text::Progress;
 
 // `sin(`, `cos(` and so on get a backslash, wherever they stand.
@@ -21,7 +21,7 @@ pub fn convert_functions(work: &mut [u8], text: Progress) -> Progress
     ensures staged { Staged work.old work.new text result (replace_rows function_mappings) }
     ensures untouched { Untouched work.old work.new text result (map literal_match function_mappings) }
 {
-    name_tables::apply_rows(work, text, 0, NameKind::Literal, &tables::FUNCTIONS)
+    name_tables::apply_rows(work, text, 0, Bounds::Literal, &tables::FUNCTIONS)
 }
 
 // `>=`, `->` and so on become commands, wherever they stand.
@@ -30,7 +30,7 @@ pub fn convert_operators(work: &mut [u8], text: Progress) -> Progress
     ensures staged { Staged work.old work.new text result (replace_rows operator_replacements) }
     ensures untouched { Untouched work.old work.new text result (map literal_match operator_replacements) }
 {
-    name_tables::apply_rows(work, text, 0, NameKind::Literal, &tables::OPERATORS)
+    name_tables::apply_rows(work, text, 0, Bounds::Literal, &tables::OPERATORS)
 }
 
 // Greek names and words, which spare `\text` and `\mathrm` blocks. Lengths count the held blocks in full.
@@ -40,20 +40,18 @@ pub fn convert_words(work: &mut [u8], text: Progress) -> Progress
     ensures answered { Answered work.old work.new text result convert_words }
     ensures untouched { Untouched work.old work.new text result (text_opening ∷ (roman_opening ∷ (map greek_match greek_letters ++ map word_or_literal_match word_mappings))) }
 {
-    let Progress::Text(from, n) = text else {
-        return text;
-    };
-    let held = held_stages::hold_both(work, from, n);
-    let outside = Progress::Text(held.at, held.len);
+    let place = text?;
+    let held = held_stages::hold_both(work, place);
+    let outside = Ok(held.text);
     let greek = name_tables::apply_rows(
         work,
         outside,
         held.extra,
-        NameKind::Greek,
-        &name_greek::GREEK,
+        Bounds::Greek,
+        name_greek::greek(),
     );
-    let words = name_tables::apply_rows(work, greek, held.extra, NameKind::Word, &tables::WORDS);
-    held_stages::put_all_back(work, words, held.texts, held.used)
+    let words = name_tables::apply_rows(work, greek, held.extra, Bounds::Word, &tables::WORDS);
+    held_stages::put_all_back(work, words, held)
 }
 
 // Phi and Psi as whole words, in block text too.
@@ -62,5 +60,5 @@ pub fn convert_greek_capitals(work: &mut [u8], text: Progress) -> Progress
     ensures staged { Staged work.old work.new text result convert_greek_capitals }
     ensures untouched { Untouched work.old work.new text result (map capital_match greek_capitals) }
 {
-    name_tables::apply_rows(work, text, 0, NameKind::Capital, &tables::CAPITALS)
+    name_tables::apply_rows(work, text, 0, Bounds::Capital, &tables::CAPITALS)
 }

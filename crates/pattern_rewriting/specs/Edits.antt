@@ -18,35 +18,34 @@ use Rattle.spec.specs.Laws.Symbols.{starts-long, past-drop}
 use Rattle.spec.specs.Laws.Sweep.{Waits}
 use Rattle.spec.specs.Laws.Matches.{Keeps, AtPattern}
 use Rattle.spec.specs.Laws.Absent.{replacing-waits, paren-to-brace-waits}
-use Rattle.text_symbols.specs.Parts.{part, rest_of}
-use Rattle.text_search.specs.Search.{Closes, closes-at, closes-within, closes-nothing, inside-drop, until-drop}
+use Rattle.text_symbols.specs.Parts.{part, length_part, rest_of}
+use Rattle.text_search.specs.Search.{Closes, closes-at, closes-within, closes-nothing, closes-rest, inside-drop, until-drop}
 use Rattle.text_symbols.specs.Places.{AheadTo}
 use Rattle.text_symbols.specs.Trim.{spanned}
-use Rattle.text_symbols.specs.declared.Span.{Span}
-use Rattle.text_search.specs.declared.Found.{Found}
-use Rattle.text_search.specs.declared.Found.TheVariants.{At, Nothing}
+use Rattle.text_search.specs.Search.{Found}
+use Rattle.std.specs.Prelude.{Option as Maybe, Some, None, is_some as found_any}
 use Rattle.pattern_rewriting.specs.declared.PatternKind.{PatternKind}
 use Rattle.pattern_rewriting.specs.declared.PatternKind.TheVariants.{Literal, ParenToBrace, WrapText, WrapMultichar}
 use Rattle.pattern_rewriting.specs.declared.Edit.{Edit}
-use Rattle.pattern_rewriting.specs.declared.Edit.TheVariants.{Copy, Write}
 
 abbrev pub ending : Bool → List ℕ
 ending closed = cond closed (bytes "}") []
 
-abbrev pub edit_turn : List ℕ → List ℕ → Edit → Turn
-edit_turn left s Copy = kept s
-edit_turn left s (Write span n closed) = taken n (left ++ spanned span s ++ ending closed)
+-- with no edit the symbol is copied
+abbrev pub edit_turn : List ℕ → List ℕ → Maybe Edit → Turn
+edit_turn left s None = kept s
+edit_turn left s (Some e) = taken e.taken (left ++ spanned e.kept s ++ ending e.closed)
 
 -- the symbols that are kept are among those that are taken, and these are in the text
-pub record EditFits (s : List ℕ) (span : Span) (taken : ℕ) : Type 0 where
-  pub order : span.start ≤ span.end
-  pub inside : span.end ≤ taken
-  pub positive : 0 < taken
-  pub within : taken ≤ length s
+pub record EditFits (s : List ℕ) (e : Edit) : Type 0 where
+  pub order : e.kept.start ≤ e.kept.end
+  pub inside : e.kept.end ≤ e.taken
+  pub positive : 0 < e.taken
+  pub within : e.taken ≤ length s
 
-abbrev pub EditSound : List ℕ → Edit → Type 0
-EditSound s Copy = Unit {0}
-EditSound s (Write span taken closed) = EditFits s span taken
+abbrev pub EditSound : List ℕ → Maybe Edit → Type 0
+EditSound s None = Unit {0}
+EditSound s (Some e) = EditFits s e
 
 -- ---- the rules of the scripts, with the pattern and the text that is written for it
 abbrev pub wrapped_by : List ℕ → List ℕ → Option (List ℕ) → Turn
@@ -73,17 +72,13 @@ pattern_at ParenToBrace pattern before s = starts pattern s
 pattern_at WrapText pattern before s = starts pattern s && is_some (find_matching_brace (drop (length pattern) s))
 pattern_at WrapMultichar pattern before s = starts pattern s && ltb 1 (length (until (past s) (drop_while alnum (past s))))
 
-abbrev pub is_write : Edit → Bool
-is_write Copy = false
-is_write (Write span n closed) = true
-
-pub record Edited (kind : PatternKind) (pattern left s : List ℕ) (r : Edit) : Type 0 where
+pub record Edited (kind : PatternKind) (pattern left s : List ℕ) (r : Maybe Edit) : Type 0 where
   pub sound : EditSound s r
   pub turn : (before : ℕ) → pattern_rule kind pattern left before s ≡ edit_turn left s r
-  pub writes : (before : ℕ) → is_write r ≡ pattern_at kind pattern before s
+  pub writes : (before : ℕ) → found_any r ≡ pattern_at kind pattern before s
 
 -- of the rest of a slice, as `&s[i..]` takes it
-pub edit-matches : {kind : PatternKind} {pattern left : List ℕ} (s : List ℕ) (i : ℕ) {r : Edit} → Edited kind pattern left (part i (length s - i) s) r → (before : ℕ) → pattern_at kind pattern before (drop i s) ≡ is_write r
+pub edit-matches : {kind : PatternKind} {pattern left : List ℕ} (s : List ℕ) (i : ℕ) {r : Maybe Edit} → Edited kind pattern left (part i (length s - i) s) r → (before : ℕ) → pattern_at kind pattern before (drop i s) ≡ found_any r
 edit-matches {kind} {pattern} s i edited before = ap (pattern_at kind pattern before) (sym (rest_of i s)) ∙ sym (edited.writes before)
 
 -- what the pattern and the text that is written for it have to be
@@ -110,7 +105,7 @@ rule-waits ParenToBrace pattern left = paren-to-brace-waits pattern left
 rule-waits WrapText pattern left = record { copies = λ before s e. rw (e, wrap_text_by) }
 rule-waits WrapMultichar pattern left = record { copies = λ before s e. rw e }
 
-pub edited-not : (kind : PatternKind) (pattern left s : List ℕ) → starts pattern s ≡ false → Edited kind pattern left s Copy
+pub edited-not : (kind : PatternKind) (pattern left s : List ℕ) → starts pattern s ≡ false → Edited kind pattern left s None
 edited-not kind pattern left s e =
     record { sound = tt; turn = λ before. (rule-waits kind pattern left).copies before s e; writes = λ before. sym ((rule-at-pattern kind pattern).fails before s e) }
 
@@ -144,23 +139,31 @@ length-place : (s : List ℕ) (j : ℕ) → 0 < j → j ≤ length s → length 
 length-place s j positive h = let l = length-drop 1 s in length-take-le (j - 1) (drop 1 s) (omega arith)
 
 -- ---- where the pattern stands
-module _ {pattern s : List ℕ} (met : PatternMet pattern s) (left : List ℕ) where
-  long : length pattern ≤ length s
+module _ {pattern s : List ℕ} (met : PatternMet pattern s) where
+  pub long : length pattern ≤ length s
   long = starts-long pattern s met.starts_with
 
-  pub literal-met : Edited Literal pattern left s (Write (record { start = 0; end = 0 }) (length pattern) false)
+  -- a closer behind it is in the text
+  pub closer-within : {r : Found} {o : Option (List ℕ)} {k : ℕ} → Closes (part (length pattern) (length s - length pattern) s) r o → r ≡ Some k → length pattern + k < length s
+  closer-within a e = let w = closes-within a e in let g = long in let l = length_part (length pattern) (length s - length pattern) s (omega arith) in omega arith
+
+module _ {pattern s : List ℕ} (met : PatternMet pattern s) (left : List ℕ) where
+  pub literal-met : Edited Literal pattern left s (Some (record { kept = record { start = 0; end = 0 }; taken = length pattern; closed = false }))
   literal-met =
       record {
-        sound = record { order = omega arith; inside = omega arith; positive = met.positive; within = long };
+        sound = record { order = omega arith; inside = omega arith; positive = met.positive; within = long met };
         turn = λ before. rw met.starts_with (turn-same refl (sym (append-nil (left ++ []) ∙ append-nil left)));
         writes = λ before. sym met.starts_with;
       }
 
-  module _ {r : Found} (f : Closes (drop (length pattern) s) r (find_matching_paren (drop (length pattern) s))) where
-    pub paren-closed : {k : ℕ} → r ≡ At k → Edited ParenToBrace pattern left s (Write (record { start = length pattern; end = length pattern + k }) (length pattern + k + 1) true)
+  module _ {r : Found} (a : Closes (part (length pattern) (length s - length pattern) s) r (find_matching_paren (part (length pattern) (length s - length pattern) s))) where
+    paren-search : Closes (drop (length pattern) s) r (find_matching_paren (drop (length pattern) s))
+    paren-search = closes-rest s (length pattern) find_matching_paren a
+
+    pub paren-closed : {k : ℕ} → r ≡ Some k → Edited ParenToBrace pattern left s (Some (record { kept = record { start = length pattern; end = length pattern + k }; taken = length pattern + k + 1; closed = true }))
     paren-closed {k} e =
         let b = drop (length pattern) s in
-        let w = closes-within f e in let l = length-drop (length pattern) s in let g = long in
+        let w = closes-within paren-search e in let l = length-drop (length pattern) s in let g = long met in
         let n : length pattern + k - length pattern ≡ k = omega arith in
         let i = inside-drop b k w in
         let t : length (take k b) ≡ k = length-take-le k b (omega arith) in
@@ -169,29 +172,32 @@ module _ {pattern s : List ℕ} (met : PatternMet pattern s) (left : List ℕ) w
         record {
           sound = record { order = omega arith; inside = omega arith; positive = omega arith; within = omega arith };
           turn = λ before. rw (met.starts_with, paren_to_brace)
-              (ap (braced pattern left b) (closes-at f e)
+              (ap (braced pattern left b) (closes-at paren-search e)
               ∙ turn-same m (ap (λ m. left ++ m ++ bytes "}") (i ∙ ap (λ m. take m b) (sym n))));
           writes = λ before. sym met.starts_with;
         }
 
-    pub paren-open : r ≡ Nothing → Edited ParenToBrace pattern left s (Write (record { start = length pattern; end = length s }) (length s) false)
+    pub paren-open : r ≡ None → Edited ParenToBrace pattern left s (Some (record { kept = record { start = length pattern; end = length s }; taken = length s; closed = false }))
     paren-open e =
         let b = drop (length pattern) s in
-        let l = length-drop (length pattern) s in let g = long in let h = met.positive in
+        let l = length-drop (length pattern) s in let g = long met in let h = met.positive in
         let m : pred (length pattern + length b) ≡ pred (length s) = omega arith in
         record {
           sound = record { order = omega arith; inside = omega arith; positive = omega arith; within = omega arith };
           turn = λ before. rw (met.starts_with, paren_to_brace)
-              (ap (braced pattern left b) (closes-nothing f e)
+              (ap (braced pattern left b) (closes-nothing paren-search e)
               ∙ turn-same m (sym (append-nil (left ++ part (length pattern) (length s - length pattern) s) ∙ ap (λ m. left ++ m) (rest_of (length pattern) s))));
           writes = λ before. sym met.starts_with;
         }
 
-  module _ {r : Found} (f : Closes (drop (length pattern) s) r (find_matching_brace (drop (length pattern) s))) where
-    pub text-closed : {k : ℕ} → r ≡ At k → Edited WrapText pattern left s (Write (record { start = 1; end = length pattern + k + 1 }) (length pattern + k + 1) true)
+  module _ {r : Found} (a : Closes (part (length pattern) (length s - length pattern) s) r (find_matching_brace (part (length pattern) (length s - length pattern) s))) where
+    brace-search : Closes (drop (length pattern) s) r (find_matching_brace (drop (length pattern) s))
+    brace-search = closes-rest s (length pattern) find_matching_brace a
+
+    pub text-closed : {k : ℕ} → r ≡ Some k → Edited WrapText pattern left s (Some (record { kept = record { start = 1; end = length pattern + k + 1 }; taken = length pattern + k + 1; closed = true }))
     text-closed {k} e =
         let j = length pattern + k + 1 in
-        let w = closes-within f e in let l = length-drop (length pattern) s in let g = long in let h = met.positive in
+        let w = closes-within brace-search e in let l = length-drop (length pattern) s in let g = long met in let h = met.positive in
         let n : length pattern + (k + 1) ≡ j = omega arith in
         let behind : drop (k + 1) (drop (length pattern) s) ≡ drop j s = drop-drop (k + 1) (length pattern) s ∙ ap (λ m. drop m s) n in
         let block : until (past s) (drop (k + 1) (drop (length pattern) s)) ≡ take (j - 1) (drop 1 s) = ap (until (past s)) behind ∙ until-place s j (omega arith) (omega arith) in
@@ -200,17 +206,17 @@ module _ {pattern s : List ℕ} (met : PatternMet pattern s) (left : List ℕ) w
         record {
           sound = record { order = omega arith; inside = omega arith; positive = omega arith; within = omega arith };
           turn = λ before. rw (met.starts_with, wrap_text_by)
-              (ap (wrapped_by left s) (closes-at f e)
+              (ap (wrapped_by left s) (closes-at brace-search e)
               ∙ turn-same m (ap (λ m. left ++ m ++ bytes "}") block));
-          writes = λ before. sym (ap₂ (λ t o. t && is_some o) met.starts_with (closes-at f e));
+          writes = λ before. sym (ap₂ (λ t o. t && is_some o) met.starts_with (closes-at brace-search e));
         }
 
-    pub text-open : r ≡ Nothing → Edited WrapText pattern left s Copy
+    pub text-open : r ≡ None → Edited WrapText pattern left s None
     text-open e =
         record {
           sound = tt;
-          turn = λ before. rw (met.starts_with, wrap_text_by) (ap (wrapped_by left s) (closes-nothing f e));
-          writes = λ before. sym (ap₂ (λ t o. t && is_some o) met.starts_with (closes-nothing f e));
+          turn = λ before. rw (met.starts_with, wrap_text_by) (ap (wrapped_by left s) (closes-nothing brace-search e));
+          writes = λ before. sym (ap₂ (λ t o. t && is_some o) met.starts_with (closes-nothing brace-search e));
         }
 
   module _ {end : ℕ} (run : AheadTo s 1 end (drop_while alnum (drop 1 s))) where
@@ -223,7 +229,7 @@ module _ {pattern s : List ℕ} (met : PatternMet pattern s) (left : List ℕ) w
     ident-long : length (until (past s) (drop_while alnum (past s))) ≡ end - 1
     ident-long = let f = run.from in ap length ident ∙ length-place s end (omega arith) run.within
 
-    pub ident-wrapped : 2 < end → Edited WrapMultichar pattern left s (Write (record { start = 1; end = end }) end true)
+    pub ident-wrapped : 2 < end → Edited WrapMultichar pattern left s (Some (record { kept = record { start = 1; end = end }; taken = end; closed = true }))
     ident-wrapped h =
         let f = run.from in let t = run.within in let c = ident-long in
         let m : length (until (past s) (drop_while alnum (past s))) ≡ pred end = omega arith in
@@ -234,7 +240,7 @@ module _ {pattern s : List ℕ} (met : PatternMet pattern s) (left : List ℕ) w
           writes = λ before. sym (and_both met.starts_with (lt-ltb 1 (length (until (past s) (drop_while alnum (past s)))) (omega arith)));
         }
 
-    pub ident-short : end ≤ 2 → Edited WrapMultichar pattern left s Copy
+    pub ident-short : end ≤ 2 → Edited WrapMultichar pattern left s None
     ident-short h =
         let c = ident-long in
         record {

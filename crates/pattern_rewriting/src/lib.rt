@@ -19,11 +19,11 @@ ghost use Rattle.text.specs.Untouched.{Untouched};
 ghost use Rattle.pattern_rewriting.specs.Edits.{PatternTextsFit, ending, pattern_rule, pattern_at};
 
 pub use rules::edit_at;
-use text::{Due, Progress};
-use text_search::Found;
+use text::{Due, Progress, TextPlace, Writer};
 use text_symbols::Span;
 
-// What is done where the pattern stands.
+// What is done where the pattern stands. The contracts name the rule of each kind, so the kinds are an enum: a closure would need a clause that
+// says the same at every caller.
 #[derive(Clone, Copy)]
 pub enum PatternKind {
     // The pattern is taken as a whole.
@@ -36,129 +36,96 @@ pub enum PatternKind {
     WrapMultichar,
 }
 
-// What a rule says of a place.
+// A rewriting: the pattern that it waits for, what is done where that stands, and the text that is written there first.
 #[derive(Clone, Copy)]
-pub enum Edit {
-    // The symbol is copied.
-    Copy,
-    // The symbols of the span are kept, so many are taken in all, and a brace closes them or not.
-    Write(Span, usize, bool),
+pub struct Rewriting<'a> {
+    pub kind: PatternKind,
+    pub pattern: &'a [u8],
+    pub left: &'a [u8],
+}
+
+// What a rule says of a place where it matches: the symbols of the span are kept, so many are taken in all, and a brace closes them or not.
+#[derive(Clone, Copy)]
+pub struct Edit {
+    pub kept: Span,
+    pub taken: usize,
+    pub closed: bool,
 }
 
 // Whether there is a match from `start` on. Behind it, only where the pattern stands is more looked at.
-fn is_matched(s: &[u8], start: usize, kind: PatternKind, pattern: &[u8]) -> bool
-    requires { (start < length s.now) × ((length s.now ≤ half_work) × (0 < length pattern.now)) }
-    ensures { result ≡ somewhere_from (pattern_at kind pattern.now) s.now start }
+fn is_matched(s: &[u8], start: usize, rewriting: Rewriting) -> bool
+    requires { (start < length s.now) × ((length s.now ≤ half_work) × (0 < length rewriting.pattern.now)) }
+    ensures { result ≡ somewhere_from (pattern_at rewriting.entry.kind rewriting.entry.pattern.now) s.now start }
 {
     let mut i = start;
-    loop {
-        let Edit::Copy = edit_at(&s[i..], kind, pattern) else {
-            return true;
-        };
-        let Found::At(at) = text_search::find_from(s, i + 1, pattern) else {
+    // The step varies: behind a place without a match, the next place of the pattern.
+    while edit_at(&s[i..], rewriting).is_none() {
+        let Some(at) = text_search::find_from(s, i + 1, rewriting.pattern) else {
             return false;
         };
         i = at;
     }
+    true
 }
 
-// Appends a closing brace, or nothing.
-fn put_ending(work: &mut [u8], to: usize, count: usize, closed: bool) -> usize
-    requires { Room work.old to most_symbols count 1 }
-    ensures { Appended work.old work.new to most_symbols count result (ending closed) }
+// Appends `left`, the symbols that the edit of the text at `at` keeps, and a closing brace or nothing.
+fn put_edit(work: &mut [u8], out: Writer, left: &[u8], at: usize, edit: Edit) -> Writer
+    requires room { Room work.old out (length left.now + (edit.kept.end - edit.kept.start + 1)) }
+    requires kept_in_bounds { (edit.kept.start ≤ edit.kept.end) × (at + edit.kept.end ≤ length work.old) }
+    requires apart { Apart (at + edit.kept.start) (edit.kept.end - edit.kept.start) out }
+    ensures { Appended work.old work.new out result (left.now ++ part (at + edit.kept.start) (edit.kept.end - edit.kept.start) work.old ++ ending edit.closed) }
 {
-    if closed {
-        return text::put(work, to, text::CAP, count, b'}');
-    }
-    count
+    let opened = out.put_all(work, left);
+    let kept = edit.kept;
+    let filled = opened.copy(work, at + kept.start, kept.end - kept.start);
+    let ending: &[u8] = if edit.closed { b"}" } else { b"" };
+    filled.put_all(work, ending)
 }
 
-// Appends `left`, the `k` symbols at `inside`, and a closing brace or nothing.
-fn put_edit(
-    work: &mut [u8],
-    to: usize,
-    count: usize,
-    left: &[u8],
-    inside: usize,
-    k: usize,
-    closed: bool,
-) -> usize
-    requires room { Room work.old to most_symbols count (length left.now + (k + 1)) }
-    requires k_in_bounds { inside + k ≤ length work.old }
-    requires apart { Apart inside k to most_symbols }
-    ensures { Appended work.old work.new to most_symbols count result (left.now ++ part inside k work.old ++ ending closed) }
+// Writes the text at `source`, rewritten: what stands before the pattern is copied at once.
+pub fn rewrite(work: &mut [u8], source: TextPlace, out: Writer, rewriting: Rewriting) -> Writer
+    requires regions { Regions work.old source.at source.n out }
+    requires pattern_texts_fit { PatternTextsFit rewriting.pattern.now rewriting.left.now }
+    ensures { Appended work.old work.new out result (sweep (pattern_rule rewriting.entry.kind rewriting.entry.pattern.now rewriting.entry.left.now) 0 0 (part source.at source.n work.old)) }
 {
-    let opened = text::put_all(work, to, text::CAP, count, left);
-    let filled = text::copy(work, inside, k, to, text::CAP, opened);
-    put_ending(work, to, filled, closed)
-}
-
-// Writes the `n` symbols at `from` to `to`, rewritten: what stands before the pattern is copied at once. The result is the finished
-// text's length.
-pub fn rewrite(
-    work: &mut [u8],
-    from: usize,
-    n: usize,
-    to: usize,
-    kind: PatternKind,
-    pattern: &[u8],
-    left: &[u8],
-) -> usize
-    requires regions { Regions work.old from n to most_symbols 0 }
-    requires pattern_texts_fit { PatternTextsFit pattern.now left.now }
-    ensures { Appended work.old work.new to most_symbols 0 result (sweep (pattern_rule kind pattern.now left.now) 0 0 (part from n work.old)) }
-{
+    let TextPlace { at: from, n } = source;
     let end = from + n;
-    let mut count = 0;
+    let mut out = out;
     let mut i = 0;
+    // The step varies: all that is taken, or the symbols up to the next pattern.
     while i < n {
         let at = from + i;
-        let Edit::Write(span, taken, closed) = edit_at(&work[at..end], kind, pattern) else {
-            count = text::copy_one(work, at, to, text::CAP, count);
+        let Some(edit) = edit_at(&work[at..end], rewriting) else {
+            out = out.copy_one(work, at);
             i += 1;
             let next = from + i;
-            let gap = text_search::gap(&work[next..end], pattern);
-            count = text::copy(work, next, gap, to, text::CAP, count);
+            let gap = text_search::gap(&work[next..end], rewriting.pattern);
+            out = out.copy(work, next, gap);
             i += gap;
             continue;
         };
-        let inside = i + span.start;
-        count = put_edit(
-            work,
-            to,
-            count,
-            left,
-            from + inside,
-            span.end - span.start,
-            closed,
-        );
-        i += taken;
+        out = put_edit(work, out, rewriting.left, at, edit);
+        i += edit.taken;
     }
-    count
+    out
 }
 
 // The stage that rewrites. Where there is no match, every byte stays as it is.
-pub fn convert_pattern(
-    work: &mut [u8],
-    text: Progress,
-    kind: PatternKind,
-    pattern: &[u8],
-    left: &[u8],
-) -> Progress
+pub fn convert_pattern(work: &mut [u8], text: Progress, rewriting: Rewriting) -> Progress
     requires ready { Ready work.old text }
-    requires pattern_texts_fit { PatternTextsFit pattern.now left.now }
-    ensures staged { Staged work.old work.new text result (stage (sweep (pattern_rule kind pattern.now left.now) 0 0)) }
-    ensures untouched { Untouched work.old work.new text result (somewhere (pattern_at kind pattern.now) 0 ∷ []) }
+    requires pattern_texts_fit { PatternTextsFit rewriting.pattern.now rewriting.left.now }
+    ensures staged { Staged work.old work.new text result (stage (sweep (pattern_rule rewriting.entry.kind rewriting.entry.pattern.now rewriting.entry.left.now) 0 0)) }
+    ensures untouched { Untouched work.old work.new text result (somewhere (pattern_at rewriting.entry.kind rewriting.entry.pattern.now) 0 ∷ []) }
 {
-    let Due::Rewrite(from, n, to, first) = text::due_for(work, text, pattern) else {
+    let Some(Due { source, out, first }) = text::due_for(work, text, rewriting.pattern) else {
         return text;
     };
+    let TextPlace { at: from, n } = source;
     let end = from + n;
-    if !is_matched(&work[from..end], first, kind, pattern) {
+    if !is_matched(&work[from..end], first, rewriting) {
         return text;
     }
-    let count = rewrite(work, from, n, to, kind, pattern, left);
-    text::finished(to, count)
+    rewrite(work, source, out, rewriting).finished()
 }
 
 // Every occurrence of the pattern is replaced.
@@ -168,7 +135,12 @@ pub fn replace(work: &mut [u8], text: Progress, pattern: &[u8], fresh: &[u8]) ->
     ensures staged { Staged work.old work.new text result (stage (replace pattern.now fresh.now)) }
     ensures untouched { Untouched work.old work.new text result (contains pattern.now ∷ []) }
 {
-    convert_pattern(work, text, PatternKind::Literal, pattern, fresh)
+    let rewriting = Rewriting {
+        kind: PatternKind::Literal,
+        pattern,
+        left: fresh,
+    };
+    convert_pattern(work, text, rewriting)
 }
 
 // `sqrt(`..`)` becomes `\sqrt{`..`}`.
@@ -177,5 +149,10 @@ pub fn convert_sqrt(work: &mut [u8], text: Progress) -> Progress
     ensures staged { Staged work.old work.new text result (stage convert_sqrt) }
     ensures untouched { Untouched work.old work.new text result (contains (bytes "sqrt(") ∷ []) }
 {
-    convert_pattern(work, text, PatternKind::ParenToBrace, b"sqrt(", b"\\sqrt{")
+    let rewriting = Rewriting {
+        kind: PatternKind::ParenToBrace,
+        pattern: b"sqrt(",
+        left: b"\\sqrt{",
+    };
+    convert_pattern(work, text, rewriting)
 }

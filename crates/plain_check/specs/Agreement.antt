@@ -10,9 +10,8 @@ use borrow.Author.Tests.{eqb-true, eq-eqb, ne_eqb, lt-ltb, le-ltb, ltb-false}
 use Rattle.spec.specs.Pipeline.{most_formula}
 use Rattle.spec.specs.Grammar.{Sum, Plain, proper, text, atoms}
 use Rattle.plain_parts.specs.declared.PlainPart.{PlainPart}
-use Rattle.plain_parts.specs.declared.Read.{Read}
-use Rattle.plain_parts.specs.declared.Read.TheVariants.{Found, Nothing}
-use Rattle.plain_check.specs.declared.PlainAnswer.{PlainAnswer}
+use Rattle.plain_parts.specs.Parts.{Read}
+use Rattle.std.specs.Prelude.{Option as Maybe, Some, None}
 use Rattle.plain_check.specs.Readers.{Answers, read_sum}
 use Rattle.plain_check.specs.Trees.{sum_part}
 use Rattle.plain_check.specs.Complete.{complete-sum, ends-text}
@@ -20,13 +19,13 @@ use Rattle.plain_check.specs.Sound.{WhenFound, OfSum, sound-sum}
 use Rattle.plain_check.specs.Check.{answer_count, PlainOf, fuel, wholly, plain_count, Checked}
 
 -- ---- the reader gives back what a proper sum has
-pub reads-back : (t : Sum) → proper t ≡ true → read_sum (fuel (text t)) (text t) ≡ Found (sum_part t)
+pub reads-back : (t : Sum) → proper t ≡ true → read_sum (fuel (text t)) (text t) ≡ Some (sum_part t)
 reads-back t h = let read = rw append-nil at (complete-sum t h [] ends-text).exact in sym (read (fuel (text t)) (omega arith))
 
 pub one-count : (s t : Sum) → proper s ≡ true → proper t ≡ true → text s ≡ text t → atoms s ≡ atoms t
 one-count s t g h e =
-    let same : Found (sum_part s) ≡ Found (sum_part t) = sym (reads-back s g) ∙ ap (λ x. read_sum (fuel x) x) e ∙ reads-back t h in
-    ap (λ r. elim r [ Nothing ↦ 0 | Found p ↦ p.atoms ]) same
+    let same : Some (sum_part s) ≡ Some (sum_part t) = sym (reads-back s g) ∙ ap (λ x. read_sum (fuel x) x) e ∙ reads-back t h in
+    ap (λ r. elim r [ None ↦ 0 | Some p ↦ p.atoms ]) same
 
 -- ---- the definition counts the atoms of just the plain texts
 complete : (s : List ℕ) (n : ℕ) → PlainOf s n → plain_count s ≡ some n
@@ -59,8 +58,8 @@ sound s n = short (ltb most_formula (length s)) refl
         }
 
     found : (r : Read) → WhenFound (OfSum s) r → length s ≤ most_formula → wholly s r ≡ some n → PlainOf s n
-    found Nothing a l y = absurd (none≢some y)
-    found (Found p) a l y = whole p (eqb p.used (length s)) refl a l y
+    found None a l y = absurd (none≢some y)
+    found (Some p) a l y = whole p (eqb p.used (length s)) refl a l y
 
     short : (b : Bool) → ltb most_formula (length s) ≡ b → cond b none (wholly s (read_sum (fuel s) s)) ≡ some n → PlainOf s n
     short true e y = absurd (none≢some y)
@@ -77,18 +76,18 @@ none-iff s = (λ e p. none≢some (sym e ∙ complete s (atoms p.sum) (record { 
     missing (some n) e h = absurd (h (sound s n e).plain)
 
 -- ---- so an equation is all that the code has to show, on each way that it takes
-pub checked : {s : List ℕ} {r : PlainAnswer} → answer_count r ≡ plain_count s → Checked s r
+pub checked : {s : List ℕ} {r : Maybe ℕ} → answer_count r ≡ plain_count s → Checked s r
 checked {s} {r} e = record { computed = e; yes = λ n. rw e (count-iff s n); no = rw e (none-iff s) }
 
 pub counts-long : (s : List ℕ) → most_formula < length s → none ≡ plain_count s
 unfolding plain_count
 counts-long s h = rw (lt-ltb most_formula (length s) h)
 
-pub counts-nothing : {s : List ℕ} → Answers read_sum 4 s Nothing → length s ≤ most_formula → none ≡ plain_count s
+pub counts-nothing : {s : List ℕ} → Answers read_sum 4 s None → length s ≤ most_formula → none ≡ plain_count s
 unfolding plain_count
 counts-nothing {s} a h = rw (le-ltb most_formula (length s) h, ← a.exact (fuel s) (omega arith))
 
-module _ {s : List ℕ} {p : PlainPart} (a : Answers read_sum 4 s (Found p)) (h : length s ≤ most_formula) where
+module _ {s : List ℕ} {p : PlainPart} (a : Answers read_sum 4 s (Some p)) (h : length s ≤ most_formula) where
   pub counts_whole : p.used ≡ length s → some p.atoms ≡ plain_count s
   unfolding plain_count
   counts_whole e = rw (le-ltb most_formula (length s) h, ← a.exact (fuel s) (omega arith), eq-eqb p.used (length s) e)

@@ -7,15 +7,13 @@ use Rattle.std.specs.Prelude.{◌≡◌, cond, ◌↔◌, List, ℕ, ◌+◌, �
 use Rattle.std.proofs.Math.Option.{Option, none, some}
 use Rattle.spec.specs.Pipeline.{most_formula}
 use Rattle.spec.specs.Grammar.{Plain, atoms}
-use Rattle.plain_parts.specs.declared.Read.{Read}
-use Rattle.plain_parts.specs.declared.Read.TheVariants.{Found, Nothing}
-use Rattle.plain_check.specs.declared.PlainAnswer.{PlainAnswer}
-use Rattle.plain_check.specs.declared.PlainAnswer.TheVariants.{Yes, No}
+use Rattle.plain_parts.specs.Parts.{Read}
+use Rattle.std.specs.Prelude.{Option as Maybe, Some, None}
 use Rattle.plain_check.specs.Readers.{read_sum}
 
-abbrev pub answer_count : PlainAnswer → Option ℕ
-answer_count (Yes n) = some n
-answer_count No = none
+abbrev pub answer_count : Maybe ℕ → Option ℕ
+answer_count (Some n) = some n
+answer_count None = none
 
 pub record PlainOf (s : List ℕ) (n : ℕ) : Type 0 where
   pub plain : Plain s
@@ -28,14 +26,14 @@ fuel s = 5 * length s + 5
 
 -- a sum that is the whole text
 abbrev pub wholly : List ℕ → Read → Option ℕ
-wholly s Nothing = none
-wholly s (Found p) = cond (eqb p.used (length s)) (some p.atoms) none
+wholly s None = none
+wholly s (Some p) = cond (eqb p.used (length s)) (some p.atoms) none
 
 unfoldable pub plain_count : List ℕ → Option ℕ
 plain_count s = cond (ltb most_formula (length s)) none (wholly s (read_sum (fuel s) s))
 
 -- ---- the contract
-pub record Checked (s : List ℕ) (r : PlainAnswer) : Type 0 where
+pub record Checked (s : List ℕ) (r : Maybe ℕ) : Type 0 where
   pub computed : answer_count r ≡ plain_count s
   pub yes : (n : ℕ) → (answer_count r ≡ some n) ↔ PlainOf s n
   pub no : (answer_count r ≡ none) ↔ (Plain s → ⊥)

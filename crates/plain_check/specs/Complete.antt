@@ -10,9 +10,8 @@ use Rattle.spec.specs.Grammar.{Atom, Sum, product, Product, factor, beside, Fact
 use Rattle.spec.specs.Grammar
 use Rattle.spec.specs.Laws.Booleans.{and_left, and_right}
 use Rattle.plain_parts.specs.declared.PlainPart.{PlainPart}
-use Rattle.plain_parts.specs.declared.Read.{Read}
-use Rattle.plain_parts.specs.declared.Read.TheVariants.{Found}
-use Rattle.plain_parts.specs.Parts.{at, leaf}
+use Rattle.std.specs.Prelude.{Some}
+use Rattle.plain_parts.specs.Parts.{Read, at, leaf}
 use Rattle.plain_check.specs.Tokens.{sign_next, factor_next}
 use Rattle.plain_check.specs.Readers.{Answers, read_sum, read_product, read_factor, read_operand, read_script}
 use Rattle.plain_check.specs.Steps.{sums, products, series-done, series-more, Front, factor-fraction, factor-scripted, factor-done, operand-atom, operand-group, scripts-more, script-absent, script-short, script-group}
@@ -69,10 +68,10 @@ pub spread : (a b c d : List ℕ) → (a ++ b ++ c) ++ d ≡ a ++ (b ++ (c ++ d)
 spread a b c d = simp append_assoc
 
 -- an answer under another name of the text and of the part
-renamed : {read : ℕ → List ℕ → Read} {rank : ℕ} {xs ys : List ℕ} {p q : PlainPart} → xs ≡ ys → p ≡ q → Answers read rank ys (Found q) → Answers read rank xs (Found p)
-renamed {read} {rank} e f a = subst₂ (λ (zs : List ℕ) (r : PlainPart). Answers read rank zs (Found r)) (sym e) (sym f) a
+renamed : {read : ℕ → List ℕ → Read} {rank : ℕ} {xs ys : List ℕ} {p q : PlainPart} → xs ≡ ys → p ≡ q → Answers read rank ys (Some q) → Answers read rank xs (Some p)
+renamed {read} {rank} e f a = subst₂ (λ (zs : List ℕ) (r : PlainPart). Answers read rank zs (Some r)) (sym e) (sym f) a
 
-front : {read : ℕ → List ℕ → Read} {rank : ℕ} (xs ys : List ℕ) {p : PlainPart} → p.used ≡ length xs → Answers read rank (xs ++ ys) (Found p) → Front read rank (xs ++ ys) p ys
+front : {read : ℕ → List ℕ → Read} {rank : ℕ} (xs ys : List ℕ) {p : PlainPart} → p.used ≡ length xs → Answers read rank (xs ++ ys) (Some p) → Front read rank (xs ++ ys) p ys
 front xs ys {p} e a = record { answers = a; behind = sym (drop_at xs ys p.used (sym e)) }
 
 -- ---- a product begins with no sign
@@ -126,21 +125,21 @@ scripts-end (symbol c w) u xs e = eqb-false (code "_") (code "/") refl
 scripts-end (inner s) u xs e = eqb-false (code "_") (code "/") refl
 
 -- ---- atoms and parentheses
-complete-atom : (a : Atom) (xs : List ℕ) → alnum (at xs 0) ≡ false → Answers read_operand 1 (atom_text a ++ xs) (Found (leaf (length (atom_text a)) 1 true))
+complete-atom : (a : Atom) (xs : List ℕ) → alnum (at xs 0) ≡ false → Answers read_operand 1 (atom_text a ++ xs) (Some (leaf (length (atom_text a)) 1 true))
 complete-atom a xs w = operand-atom (atom_text a ++ xs) (atom-length a xs w) (atom-some a)
 
-complete-enclosed : (s : Sum) (xs : List ℕ) → Answers read_sum 4 (text s ++ (bytes ")" ++ xs)) (Found (sum_part s)) → Answers read_operand 1 (operand_text (enclosed s) ++ xs) (Found (operand_part (enclosed s)))
+complete-enclosed : (s : Sum) (xs : List ℕ) → Answers read_sum 4 (text s ++ (bytes ")" ++ xs)) (Some (sum_part s)) → Answers read_operand 1 (operand_text (enclosed s) ++ xs) (Some (operand_part (enclosed s)))
 unfolding text
 complete-enclosed s xs a =
     let ys = text s ++ (bytes ")" ++ xs) in
     renamed (ap (λ (l : List ℕ). bytes "(" ++ l) (append_assoc (text s) (bytes ")") xs)) (enclosed-part s)
-    (rw (get_or_at (text s) (code ")") xs 0 (length (text s)) refl) at (operand-group (bytes "(" ++ ys) {n = 0} refl (omega arith) refl refl a))
+    (rw (get_or_at (text s) (code ")") xs 0 (length (text s)) refl) at (operand-group (bytes "(" ++ ys) refl refl refl a))
 
 -- ---- a product, a sign and a sum
 complete-signed : (b : Sign) (p : Product) (s : Sum) (xs : List ℕ)
-    → Answers read_product 3 (product_text p ++ (sign_text b ++ (text s ++ xs))) (Found (product_part p))
-    → Answers read_sum 4 (text s ++ xs) (Found (sum_part s))
-    → Answers read_sum 4 (text (signed b p s) ++ xs) (Found (sum_part (signed b p s)))
+    → Answers read_product 3 (product_text p ++ (sign_text b ++ (text s ++ xs))) (Some (product_part p))
+    → Answers read_sum 4 (text s ++ xs) (Some (sum_part s))
+    → Answers read_sum 4 (text (signed b p s) ++ xs) (Some (sum_part (signed b p s)))
 complete-signed b p s xs first next =
     let ys = text s ++ xs in
     renamed (ap (λ (l : List ℕ). l ++ xs) (signed-text b p s) ∙ spread (product_text p) (sign_text b) (text s) xs) (signed_part b p s)
@@ -150,7 +149,7 @@ complete-signed b p s xs first next =
 mutual
   unfolding text
 
-  pub complete-sum : (t : Sum) → proper t ≡ true → (xs : List ℕ) → EndsSum xs → Answers read_sum 4 (text t ++ xs) (Found (sum_part t))
+  pub complete-sum : (t : Sum) → proper t ≡ true → (xs : List ℕ) → EndsSum xs → Answers read_sum 4 (text t ++ xs) (Some (sum_part t))
   complete-sum (product p) g xs e = renamed refl (product-part p) (series-done sums (front (product_text p) xs refl (complete-product p g xs e.product)) e.sign)
   complete-sum (Grammar.plus p s) g xs e =
       let ys = sign_text plus ++ (text s ++ xs) in
@@ -159,7 +158,7 @@ mutual
       let ys = sign_text minus ++ (text s ++ xs) in
       complete-signed minus p s xs (complete-product p (and_left (proper_product p) (proper s) g) ys (ends-sign minus (text s ++ xs))) (complete-sum s (and_right (proper_product p) (proper s) g) xs e)
 
-  complete-product : (t : Product) → proper_product t ≡ true → (xs : List ℕ) → EndsProduct xs → Answers read_product 3 (product_text t ++ xs) (Found (product_part t))
+  complete-product : (t : Product) → proper_product t ≡ true → (xs : List ℕ) → EndsProduct xs → Answers read_product 3 (product_text t ++ xs) (Some (product_part t))
   complete-product (factor f) g xs e = renamed refl (factor-part f) (series-done products (front (factor_text f) xs refl (complete-factor f g xs e.factor)) e.space)
   complete-product (beside f p) g xs e =
       let ys = product_text p ++ xs in
@@ -167,7 +166,7 @@ mutual
       renamed (spread (factor_text f) (bytes " ") (product_text p) xs) (beside-part f p)
       (series-more products (front (factor_text f) (bytes " " ++ ys) refl first) (product-starts p xs) refl (complete-product p (and_right (proper_factor f) (proper_product p) g) xs e))
 
-  complete-factor : (t : Factor) → proper_factor t ≡ true → (xs : List ℕ) → EndsFactor xs → Answers read_factor 2 (factor_text t ++ xs) (Found (factor_part t))
+  complete-factor : (t : Factor) → proper_factor t ≡ true → (xs : List ℕ) → EndsFactor xs → Answers read_factor 2 (factor_text t ++ xs) (Some (factor_part t))
   complete-factor (scripted a l h) g xs e =
       let ys = script_text (bytes "^") h ++ xs in
       let zs = script_text (bytes "_") l ++ ys in
@@ -185,11 +184,11 @@ mutual
   complete-factor (group s) g xs e =
       renamed refl (group-part s) (factor-done (front (operand_text (enclosed s)) xs refl (complete-enclosed s xs (complete-sum s g (bytes ")" ++ xs) (ends-paren xs)))) e.slash refl)
 
-  complete-operand : (t : Operand) → proper_inside t ≡ true → (xs : List ℕ) → alnum (at xs 0) ≡ false → Answers read_operand 1 (operand_text t ++ xs) (Found (operand_part t))
+  complete-operand : (t : Operand) → proper_inside t ≡ true → (xs : List ℕ) → alnum (at xs 0) ≡ false → Answers read_operand 1 (operand_text t ++ xs) (Some (operand_part t))
   complete-operand (atom a) g xs w = renamed refl (atom-part a) (complete-atom a xs w)
   complete-operand (enclosed s) g xs w = complete-enclosed s xs (complete-sum s g (bytes ")" ++ xs) (ends-paren xs))
 
-  complete-script : (t : Script) → proper_script t ≡ true → (sign : ℕ) → 0 < sign → (xs : List ℕ) → (at xs 0 ≡ sign → ⊥) → Answers (read_script sign) 0 (script_text (sign ∷ []) t ++ xs) (Found (script_part sign t))
+  complete-script : (t : Script) → proper_script t ≡ true → (sign : ℕ) → 0 < sign → (xs : List ℕ) → (at xs 0 ≡ sign → ⊥) → Answers (read_script sign) 0 (script_text (sign ∷ []) t ++ xs) (Some (script_part sign t))
   complete-script bare g sign h xs n = renamed refl (bare-part sign) (script-absent sign xs n)
   complete-script (symbol c e) g sign h xs n = renamed refl (symbol-part sign c e) (script-short sign (sign ∷ c ∷ xs) h refl refl e)
   complete-script (inner s) g sign h xs n =

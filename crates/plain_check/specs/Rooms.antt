@@ -58,3 +58,9 @@ atom-room xs = by (is_atom (take (run xs) xs))
     by : (b : Bool) → cond b (run xs) 0 ≤ length xs
     by true = run_room xs
     by false = omega arith
+
+-- an atom has some symbol
+pub atom-nonempty : (n : ℕ) (s : List ℕ) → is_atom (take n s) ≡ true → 0 < n
+atom-nonempty zero [] e = absurd (false≢true e)
+atom-nonempty zero (x ∷ s) e = absurd (false≢true e)
+atom-nonempty (suc n) s e = omega arith

@@ -9,9 +9,8 @@ use Rattle.std.specs.Prelude.{◌≡◌, refl, true, false, List, ℕ, suc, ◌+
 use Rattle.std.proofs.Common.{sym, ap, ◌∙◌, subst, add_assoc, arith, length-drop, drop-drop}
 use Rattle.std.proofs.Math.Bool.{and_assoc}
 use Rattle.plain_parts.specs.declared.PlainPart.{PlainPart}
-use Rattle.plain_parts.specs.declared.Read.{Read}
-use Rattle.plain_parts.specs.declared.Read.TheVariants.{Found, Nothing}
-use Rattle.plain_parts.specs.Parts.{bytes_of, FitBehind, ReadWithin, join, adjoined, behind}
+use Rattle.std.specs.Prelude.{Some, None}
+use Rattle.plain_parts.specs.Parts.{Read, bytes_of, FitBehind, ReadWithin, join, adjoined, behind}
 use Rattle.plain_check.specs.Readers.{Answers}
 use Rattle.plain_check.specs.Steps.{Split, fit, adjoined-within, Series, series-nothing, series-done, series-more}
 
@@ -19,19 +18,19 @@ join-assoc : (p q r : PlainPart) (a b : ℕ) → join p a (join q b r) ≡ join 
 join-assoc p q r a b = simp (and_assoc, add_assoc)
 
 adjoined-assoc : (p q : PlainPart) (a b : ℕ) (r : Read) → adjoined p a (adjoined q b r) ≡ adjoined (join p a q) b r
-adjoined-assoc p q a b Nothing = refl
-adjoined-assoc p q a b (Found r) = ap (λ x. Found x) (join-assoc p q r a b)
+adjoined-assoc p q a b None = refl
+adjoined-assoc p q a b (Some r) = ap (λ x. Some x) (join-assoc p q r a b)
 
 module _ (σ : Series) where
   -- xs begins with p, some parts of a series: p is all of it where nothing comes next, and what comes next is joined to p
   pub record Begun (xs : List ℕ) (p : PlainPart) : Type 0 where
-    pub within : ReadWithin (Found p) xs
-    pub done : {ys : List ℕ} → ys ≡ drop p.used xs → σ.next ys ≡ false → Answers σ.read (suc σ.rank) xs (Found p)
+    pub within : ReadWithin (Some p) xs
+    pub done : {ys : List ℕ} → ys ≡ drop p.used xs → σ.next ys ≡ false → Answers σ.read (suc σ.rank) xs (Some p)
     pub more : {ys zs : List ℕ} {r : Read} → ys ≡ drop p.used xs → σ.next ys ≡ true → zs ≡ drop σ.gap ys → Answers σ.read (suc σ.rank) zs r → Answers σ.read (suc σ.rank) xs (adjoined p σ.gap r)
 
   abbrev pub SoFar : List ℕ → Read → Type 0
-  SoFar xs Nothing = Answers σ.read (suc σ.rank) xs Nothing
-  SoFar xs (Found p) = Begun xs p
+  SoFar xs None = Answers σ.read (suc σ.rank) xs None
+  SoFar xs (Some p) = Begun xs p
 
   -- xs is p, a gap, and zs, where one more part begins
   pub record SeriesTurn (xs : List ℕ) (p : PlainPart) (zs : List ℕ) : Type 0 where
@@ -43,12 +42,12 @@ module _ (σ : Series) where
 
   -- the next part begins at zs, which is all of xs where nothing has been read
   pub data Ahead (xs : List ℕ) : Read → List ℕ → Type 0 where
-    first : Ahead xs Nothing xs
-    later : {p : PlainPart} {zs : List ℕ} → SeriesTurn xs p zs → Ahead xs (Found p) zs
+    first : Ahead xs None xs
+    later : {p : PlainPart} {zs : List ℕ} → SeriesTurn xs p zs → Ahead xs (Some p) zs
 
 pub first_part : (σ : Series) {xs : List ℕ} (r : Read) → Answers σ.part σ.rank xs r → SoFar σ xs r
-first_part σ Nothing a = series-nothing σ a
-first_part σ (Found p) a =
+first_part σ None a = series-nothing σ a
+first_part σ (Some p) a =
     record {
       within = a.within;
       done = λ d t. series-done σ (record { answers = a; behind = d }) t;
@@ -68,10 +67,10 @@ module _ {σ : Series} {xs : List ℕ} {p : PlainPart} {zs : List ℕ} (turn : S
   all next = turn.begun.more turn.behind turn.part-next turn.after next
 
   turn_more : (r : Read) → SoFar σ zs r → SoFar σ xs (adjoined p σ.gap r)
-  turn_more Nothing a = all a
-  turn_more (Found q) a =
+  turn_more None a = all a
+  turn_more (Some q) a =
       record {
-        within = adjoined-within (Found q) turn-split a.within;
+        within = adjoined-within (Some q) turn-split a.within;
         done = λ e t. all (a.done (skipped q.used e) t);
         more = λ {r = r} e t f next. rw (← adjoined-assoc p q σ.gap σ.gap r) (all (a.more (skipped q.used e) t f next));
       }
@@ -89,12 +88,12 @@ module _ {σ : Series} {xs : List ℕ} where
   ahead_more first q a = a
   ahead_more (later turn) q a = turn_more turn q a
 
-  passed : {r : Read} {zs : List ℕ} {p : PlainPart} → Ahead σ xs r zs → (q : Read) → behind r σ.gap q ≡ Found p → length xs ≤ p.used + length zs
+  passed : {r : Read} {zs : List ℕ} {p : PlainPart} → Ahead σ xs r zs → (q : Read) → behind r σ.gap q ≡ Some p → length xs ≤ p.used + length zs
   passed first q e = omega arith
-  passed (later turn) Nothing e = let z : ◌≡◌ {A = ℕ} 0 1 = cc in absurd (omega arith)
-  passed (later turn) (Found q) e = omega (arith, turn-split turn, ap bytes_of e)
+  passed (later turn) None e = let z : ◌≡◌ {A = ℕ} 0 1 = cc in absurd (omega arith)
+  passed (later turn) (Some q) e = omega (arith, turn-split turn, ap bytes_of e)
 
-  ahead-less : {r : Read} {zs us : List ℕ} {p : PlainPart} → Ahead σ xs r zs → (q : Read) → behind r σ.gap q ≡ Found p → SeriesTurn σ xs p us → length us < length zs
+  ahead-less : {r : Read} {zs us : List ℕ} {p : PlainPart} → Ahead σ xs r zs → (q : Read) → behind r σ.gap q ≡ Some p → SeriesTurn σ xs p us → length us < length zs
   ahead-less ahead q e turn = omega (arith, passed ahead q e, turn-split turn, σ.positive)
 
 -- ---- one more part q has been read at zs and joined to what was read before
@@ -102,14 +101,14 @@ module _ {σ : Series} {xs : List ℕ} {r : Read} {zs : List ℕ} {r' : Read} (a
   so_far : SoFar σ xs r'
   so_far = subst (SoFar σ xs) (sym joins) (ahead_more ahead q part)
 
-  pub read-nothing : r' ≡ Nothing → Answers σ.read (suc σ.rank) xs Nothing
+  pub read-nothing : r' ≡ None → Answers σ.read (suc σ.rank) xs None
   read-nothing e = subst (SoFar σ xs) e so_far
 
-  module _ {p : PlainPart} (found : r' ≡ Found p) {us : List ℕ} (rest : us ≡ drop p.used xs) where
+  module _ {p : PlainPart} (found : r' ≡ Some p) {us : List ℕ} (rest : us ≡ drop p.used xs) where
     begun : Begun σ xs p
     begun = subst (SoFar σ xs) found so_far
 
-    pub read_done : σ.next us ≡ false → Answers σ.read (suc σ.rank) xs (Found p)
+    pub read_done : σ.next us ≡ false → Answers σ.read (suc σ.rank) xs (Some p)
     read_done t = begun.done rest t
 
     pub read-turn : {ys : List ℕ} → σ.next us ≡ true → ys ≡ drop σ.gap us → SeriesTurn σ xs p ys

@@ -13,9 +13,8 @@ use Rattle.spec.specs.Symbols.{is, bytes, alnum}
 use Rattle.spec.specs.Grammar.{product, factor, beside, scripted, fraction, group, Operand, atom, enclosed, Script, bare, symbol, inner, proper, proper_product, proper_factor, proper_script, atom_text, text, product_text, factor_text, operand_text, script_text}
 use Rattle.spec.specs.Laws.Booleans.{and_left, and_right, and_both, or_split}
 use Rattle.plain_parts.specs.declared.PlainPart.{PlainPart}
-use Rattle.plain_parts.specs.declared.Read.{Read}
-use Rattle.plain_parts.specs.declared.Read.TheVariants.{Found, Nothing}
-use Rattle.plain_parts.specs.Parts.{at, either, and_then, leaf, join, with_scripts, wrap, as_script, indivisible, adjoined, divided, scripted as scripted_read, closed, enclosed_script}
+use Rattle.std.specs.Prelude.{Some, None}
+use Rattle.plain_parts.specs.Parts.{Read, at, either, and_then, leaf, join, with_scripts, wrap, as_script, indivisible, adjoined, divided, scripted as scripted_read, closed, enclosed_script}
 use Rattle.plain_check.specs.Tokens.{run, is_atom, atom_length, sign_next, factor_next}
 use Rattle.plain_check.specs.Readers.{read_sum, read_product, read_factor, read_operand, read_scripts, read_script}
 use Rattle.plain_check.specs.Rooms.{run_room}
@@ -58,13 +57,13 @@ OfScripts =
 
 -- ---- what was read, if anything was
 abbrev pub WhenFound : (PlainPart → Type 0) → Read → Type 0
-WhenFound R Nothing = Unit {0}
-WhenFound R (Found p) = R p
+WhenFound R None = Unit {0}
+WhenFound R (Some p) = R p
 
 module _ (R S : PlainPart → Type 0) where
   then : (r : Read) (f : PlainPart → Read) → WhenFound R r → ((p : PlainPart) → R p → WhenFound S (f p)) → WhenFound S (and_then r f)
-  then Nothing f s g = tt
-  then (Found p) f s g = g p s
+  then None f s g = tt
+  then (Some p) f s g = g p s
 
 module _ (S : PlainPart → Type 0) (a c : Unit {0} → Read) where
   choose : (b : Bool) → (b ≡ true → WhenFound S (a tt)) → (b ≡ false → WhenFound S (c tt)) → WhenFound S (either b a c)
@@ -113,8 +112,8 @@ module _ (xs : List ℕ) where
   product-sound p a = record { tree = product a.tree; is-fine = a.is-fine; counted = product-part a.tree ∙ a.counted; split = a.split }
 
   signed-sound : (p : PlainPart) (r : Read) → OfProduct xs p → sign_next (drop p.used xs) ≡ true → WhenFound (OfSum (drop 3 (drop p.used xs))) r → WhenFound (OfSum xs) (adjoined p 3 r)
-  signed-sound p Nothing a t b = tt
-  signed-sound p (Found q) a t b =
+  signed-sound p None a t b = tt
+  signed-sound p (Some q) a t b =
       let s = sign_at (drop p.used xs) t in
       record {
         tree = signed s.sign a.tree b.tree;
@@ -131,8 +130,8 @@ module _ (xs : List ℕ) where
 
   beside-sound : (p : PlainPart) (r : Read) → OfFactor xs p → factor_next (drop p.used xs) ≡ true → WhenFound (OfProduct (drop 1 (drop p.used xs))) r → WhenFound (OfProduct xs) (adjoined p 1 r)
   unfolding text
-  beside-sound p Nothing a t b = tt
-  beside-sound p (Found q) a t b =
+  beside-sound p None a t b = tt
+  beside-sound p (Some q) a t b =
       record {
         tree = beside a.tree b.tree;
         is-fine = and_both a.is-fine b.is-fine;
@@ -142,8 +141,8 @@ module _ (xs : List ℕ) where
 
   fraction_sound : (p : PlainPart) (r : Read) → OfOperand xs p → at (drop p.used xs) 0 ≡ code "/" → WhenFound (OfOperand (drop 1 (drop p.used xs))) r → WhenFound (OfFactor xs) (divided p r)
   unfolding text
-  fraction_sound p Nothing a t b = tt
-  fraction_sound p (Found q) a t b = choose (OfFactor xs) (λ _. Nothing) (λ _. Found (join p 1 q)) (indivisible p q) (λ _. tt) λ bar.
+  fraction_sound p None a t b = tt
+  fraction_sound p (Some q) a t b = choose (OfFactor xs) (λ _. None) (λ _. Some (join p 1 q)) (indivisible p q) (λ _. tt) λ bar.
       record {
         tree = fraction a.tree b.tree;
         is-fine = unbarred-proper a.tree b.tree (ap₂ indivisible a.counted b.counted ∙ bar) a.is-fine b.is-fine;
@@ -153,8 +152,8 @@ module _ (xs : List ℕ) where
 
   scripted-sound : (p : PlainPart) (r : Read) → OfOperand xs p → p.lone ≡ true → WhenFound (OfScripts (drop p.used xs)) r → WhenFound (OfFactor xs) (scripted_read p r)
   unfolding text
-  scripted-sound p Nothing a l b = tt
-  scripted-sound p (Found q) a l b = by a.tree a.counted a.split
+  scripted-sound p None a l b = tt
+  scripted-sound p (Some q) a l b = by a.tree a.counted a.split
     where
       by : (t : Operand) → operand_part t ≡ p → operand_text t ++ drop p.used xs ≡ xs → OfFactor xs (with_scripts p q)
       by (atom x) k s =
@@ -201,9 +200,9 @@ module _ (xs : List ℕ) where
 
   enclosed-sound : (r : Read) → at xs 0 ≡ code "(" → WhenFound (OfSum (drop 1 xs)) r → WhenFound (OfOperand xs) (closed (drop 1 xs) r)
   unfolding text
-  enclosed-sound Nothing t a = tt
-  enclosed-sound (Found p) t a = let ys = drop 1 xs in
-      choose (OfOperand xs) (λ _. Found (wrap p)) (λ _. Nothing) (is ")" (at ys p.used)) (λ e.
+  enclosed-sound None t a = tt
+  enclosed-sound (Some p) t a = let ys = drop 1 xs in
+      choose (OfOperand xs) (λ _. Some (wrap p)) (λ _. None) (is ")" (at ys p.used)) (λ e.
       record {
         tree = enclosed a.tree;
         is-fine = a.is-fine;
@@ -216,8 +215,8 @@ module _ (xs : List ℕ) where
       (λ _. tt)
 
   scripts-sound : (p : PlainPart) (r : Read) → OfScript (code "_") xs p → WhenFound (OfScript (code "^") (drop p.used xs)) r → WhenFound (OfScripts xs) (adjoined p 0 r)
-  scripts-sound p Nothing a b = tt
-  scripts-sound p (Found q) a b =
+  scripts-sound p None a b = tt
+  scripts-sound p (Some q) a b =
       record {
         tree = record { low = a.tree; high = b.tree };
         is-fine = and_both a.is-fine b.is-fine;
@@ -239,9 +238,9 @@ module _ (sign : ℕ) (xs : List ℕ) (some : 0 < sign) (stands : at xs 0 ≡ si
 
   inner-sound : (r : Read) → alnum (at (drop 1 xs) 0) ≡ false → WhenFound (OfOperand (drop 1 xs)) r → WhenFound (OfScript sign xs) (enclosed_script r)
   unfolding text
-  inner-sound Nothing w a = tt
-  inner-sound (Found p) w a =
-      choose (OfScript sign xs) (λ _. Found (as_script p)) (λ _. Nothing) p.scriptless (λ e. by e a.tree a.is-fine a.counted a.split) (λ _. tt)
+  inner-sound None w a = tt
+  inner-sound (Some p) w a =
+      choose (OfScript sign xs) (λ _. Some (as_script p)) (λ _. None) p.scriptless (λ e. by e a.tree a.is-fine a.counted a.split) (λ _. tt)
     where
       by : p.scriptless ≡ true → (t : Operand) → proper_inside t ≡ true → operand_part t ≡ p → operand_text t ++ drop p.used (drop 1 xs) ≡ drop 1 xs → OfScript sign xs (as_script p)
       by e (atom x) g k s = absurd (false≢true (sym w ∙ ap (λ (l : List ℕ). alnum (at l 0)) (sym s) ∙ atom-begins-alnum x (drop p.used (drop 1 xs))))

@@ -1,5 +1,5 @@
 -- What comes next in a text: a sign, one more factor, an atom. Assumes nothing.
-use Rattle.std.specs.Prelude.{Bool, not, cond, ◌&&◌, ◌||◌, List, [], ◌∷◌, ℕ, suc, eqb, ltb, length, take}
+use Rattle.std.specs.Prelude.{◌≡◌, ◌<◌, Option as Maybe, Some, None, Bool, not, cond, ◌&&◌, ◌||◌, List, [], ◌∷◌, ℕ, suc, eqb, ltb, length, take}
 use Rattle.spec.specs.Symbols.{is, letter, digit, alnum, all}
 use Rattle.spec.specs.Finish.{one_of}
 use Rattle.spec.specs.Grammar.{greek_names}
@@ -28,3 +28,8 @@ is_atom xs = is_number xs || (is_variable xs || one_of greek_names xs)
 -- the length of the atom that comes next, or 0: it is all of a run of letters and digits
 abbrev pub atom_length : List ℕ → ℕ
 atom_length xs = cond (is_atom (take (run xs) xs)) (run xs) 0
+
+-- the same as the code answers it, with none in place of 0
+abbrev pub Atom : List ℕ → Maybe ℕ → Type 0
+Atom xs (Some n) = (0 < n) × (n ≡ atom_length xs)
+Atom xs None = 0 ≡ atom_length xs

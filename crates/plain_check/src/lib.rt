@@ -8,27 +8,18 @@ mod tokens;
 
 ghost use Rattle.plain_check.specs.Check.{Checked};
 
-use plain_parts::Read;
-
-// Plain, with its number of atoms, or not.
-#[derive(Clone, Copy)]
-pub enum PlainAnswer {
-    Yes(usize),
-    No,
-}
-
-// A text is plain when it has at most 4,096 bytes and the whole of it is one sum.
-pub fn plain_check(s: &[u8]) -> PlainAnswer
+// The number of atoms of a plain text, or none where the text is not plain: a plain text has at most 4,096 bytes, and the whole of it is
+// one sum.
+pub fn plain_check(s: &[u8]) -> Option<usize>
     ensures { Checked s.now result }
 {
     if text::MOST_FORMULA < s.len() {
-        return PlainAnswer::No;
+        return None;
     }
-    let Read::Found(p) = readers::sum(s) else {
-        return PlainAnswer::No;
-    };
+    let p = readers::sum(s)?;
     if p.used == s.len() {
-        return PlainAnswer::Yes(p.atoms);
+        Some(p.atoms)
+    } else {
+        None
     }
-    PlainAnswer::No
 }

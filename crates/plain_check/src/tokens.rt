@@ -1,6 +1,6 @@
 // What comes next in a text: a sign, one more factor, an atom.
 ghost use Rattle.std.specs.Prelude.{◌≡◌, drop};
-ghost use Rattle.plain_check.specs.Tokens.{sign_next, factor_next, is_atom, atom_length};
+ghost use Rattle.plain_check.specs.Tokens.{sign_next, factor_next, is_atom, Atom};
 
 use text_symbols::Class;
 
@@ -8,7 +8,7 @@ use text_symbols::Class;
 pub fn rest(s: &[u8], n: usize) -> &[u8]
     ensures { result.now ≡ drop n s.now }
 {
-    if n <= s.len() { &s[n..] } else { &s[..0] }
+    s.get(n..).unwrap_or(&[])
 }
 
 // Does ` + ` or ` - ` come next?
@@ -39,10 +39,10 @@ fn is_atom(s: &[u8]) -> bool
     number | (variable | name_greek::is_greek(s))
 }
 
-// The length of the atom that comes next, or 0. A plain text has no letter or digit right behind an atom, so an atom is all of a run.
-pub fn atom(s: &[u8]) -> usize
-    ensures { result ≡ atom_length s.now }
+// The length of the atom that comes next. A plain text has no letter or digit right behind an atom, so an atom is all of a run.
+pub fn atom(s: &[u8]) -> Option<usize>
+    ensures { Atom s.now result }
 {
     let n = text_symbols::run_end(s, 0, Class::Alnum);
-    if is_atom(&s[..n]) { n } else { 0 }
+    if is_atom(&s[..n]) { Some(n) } else { None }
 }

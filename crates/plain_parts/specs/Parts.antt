@@ -2,23 +2,25 @@
 --     leaf, join, with_scripts, wrap, as_script     of parts
 --     found, adjoined, behind, divided, scripted, closed, enclosed_script   the same where there may be nothing, with what the rules forbid
 --     JoinFits, FitBehind, ReadWithin                            what keeps counts small
-use Rattle.std.specs.Prelude.{Bool, true, false, ◌&&◌, ◌||◌, List, ℕ, ◌+◌, ◌≤◌, ◌<◌, ◌^◌, ltb, length, get_or}
+use Rattle.std.specs.Prelude.{Option, Some, None, Bool, true, false, ◌&&◌, ◌||◌, List, ℕ, ◌+◌, ◌≤◌, ◌<◌, ◌^◌, ltb, length, get_or}
 use Rattle.spec.specs.Symbols.{is}
 use Rattle.plain_parts.specs.declared.PlainPart.{PlainPart}
-use Rattle.plain_parts.specs.declared.Read.{Read}
-use Rattle.plain_parts.specs.declared.Read.TheVariants.{Found, Nothing}
+
+-- what a reader answers
+abbrev pub Read : Type 0
+Read = Option PlainPart
 
 -- the symbol at i, and 0 past the end
 abbrev pub at : List ℕ → ℕ → ℕ
 at xs i = get_or xs i 0
 
 abbrev pub bytes_of : Read → ℕ
-bytes_of Nothing = 0
-bytes_of (Found p) = p.used
+bytes_of None = 0
+bytes_of (Some p) = p.used
 
 abbrev pub atoms_of : Read → ℕ
-atoms_of Nothing = 0
-atoms_of (Found p) = p.atoms
+atoms_of None = 0
+atoms_of (Some p) = p.atoms
 
 -- the bytes and the atoms of two parts with a gap between them are machine numbers
 pub record JoinFits (p : PlainPart) (gap : ℕ) (r : Read) : Type 0 where
@@ -27,8 +29,8 @@ pub record JoinFits (p : PlainPart) (gap : ℕ) (r : Read) : Type 0 where
 
 -- the same where there may be nothing in front
 abbrev pub FitBehind : Read → ℕ → Read → Type 0
-FitBehind Nothing gap r = Unit {0}
-FitBehind (Found p) gap r = JoinFits p gap r
+FitBehind None gap r = Unit {0}
+FitBehind (Some p) gap r = JoinFits p gap r
 
 -- what was read lies in the text, and its atoms among its bytes
 pub record ReadWithin (r : Read) (xs : List ℕ) : Type 0 where
@@ -41,8 +43,8 @@ either true a b = a tt
 either false a b = b tt
 
 abbrev pub and_then : Read → (PlainPart → Read) → Read
-and_then Nothing f = Nothing
-and_then (Found p) f = f p
+and_then None f = None
+and_then (Some p) f = f p
 
 -- ---- parts
 -- no more than its bytes: an atom, a script of one symbol, or a script that is not there
@@ -70,27 +72,27 @@ as_script p = record { used = p.used + 1; atoms = p.atoms; lone = false; wrapped
 
 -- ---- what is forbidden, and where there is nothing
 abbrev pub found : PlainPart → Read
-found p = Found p
+found p = Some p
 
 abbrev pub adjoined : PlainPart → ℕ → Read → Read
-adjoined p gap r = and_then r λ q. Found (join p gap q)
+adjoined p gap r = and_then r λ q. Some (join p gap q)
 
 abbrev pub behind : Read → ℕ → Read → Read
-behind Nothing gap r = r
-behind (Found p) gap r = adjoined p gap r
+behind None gap r = r
+behind (Some p) gap r = adjoined p gap r
 
 -- one of the operands is an atom in parentheses
 abbrev pub indivisible : PlainPart → PlainPart → Bool
 indivisible p q = p.wrapped || q.wrapped
 
 abbrev pub divided : PlainPart → Read → Read
-divided p r = and_then r λ q. either (indivisible p q) (λ _. Nothing) (λ _. Found (join p 1 q))
+divided p r = and_then r λ q. either (indivisible p q) (λ _. None) (λ _. Some (join p 1 q))
 
 abbrev pub scripted : PlainPart → Read → Read
-scripted p r = and_then r λ q. Found (with_scripts p q)
+scripted p r = and_then r λ q. Some (with_scripts p q)
 
 abbrev pub closed : List ℕ → Read → Read
-closed xs r = and_then r λ p. either (is ")" (at xs p.used)) (λ _. Found (wrap p)) (λ _. Nothing)
+closed xs r = and_then r λ p. either (is ")" (at xs p.used)) (λ _. Some (wrap p)) (λ _. None)
 
 abbrev pub enclosed_script : Read → Read
-enclosed_script r = and_then r λ p. either p.scriptless (λ _. Found (as_script p)) (λ _. Nothing)
+enclosed_script r = and_then r λ p. either p.scriptless (λ _. Some (as_script p)) (λ _. None)

@@ -2,10 +2,11 @@
 --     PrintedRoom    what a function on the buffer asks, and ensures: so many bytes of it are in use
 --     Added          a text was new and stands behind those before it, which are as they were
 --     PrintedKept    it was added if more is in use than before
-use Rattle.std.specs.Prelude.{◌≡◌, ℕ, ◌+◌, ◌-◌, ◌<◌, ◌≤◌, false, List, length}
+use Rattle.std.specs.Prelude.{◌≡◌, refl, ℕ, ◌+◌, ◌-◌, ◌<◌, ◌≤◌, false, List, length}
 use Rattle.std.proofs.Common.{inl, zero-add, arith}
 use Rattle.spec.specs.Symbols.{contains}
 use Rattle.text_symbols.specs.Parts.{part}
+use Rattle.text.specs.declared.writer.Writer.{Writer}
 use Rattle.text.specs.Writer.{Appended, appended-long, appended-part}
 use Rattle.text.specs.Written.{appended-text}
 
@@ -26,13 +27,13 @@ pub nothing-kept : {printed : List ℕ} {used : ℕ} {s : List ℕ} → PrintedR
 nothing-kept r = record { room = r; added = λ more. absurd (omega arith) }
 
 pub all-kept :
-    {printed printed' : List ℕ} {used count : ℕ} {s : List ℕ} → PrintedRoom printed used → contains s printed ≡ false → length s ≤ 65536 - used
-    → Appended printed printed' used (length s) 0 count s → PrintedKept printed printed' used (used + length s) s
+    {printed printed' : List ℕ} {used : ℕ} {o : Writer} {s : List ℕ} → PrintedRoom printed used → contains s printed ≡ false → length s ≤ 65536 - used
+    → Appended printed printed' (record { to = used; cap = length s; count = 0 }) o s → PrintedKept printed printed' used (used + length s) s
 all-kept {used = used} {s = s} r fresh h a =
     let l = appended-long a in
     let long = r.long in
     let within = r.within in
-    let all : part used (length s) _ ≡ s = rw (a.counted, zero-add) at (appended-text a (omega arith) (omega (arith, a.counted))) in
+    let all : part used (length s) _ ≡ s = rw (a.same-place, a.counted, zero-add) at (appended-text a refl (omega arith) (omega (arith, a.counted))) in
     record {
       room = record { long = omega arith; within = omega arith };
       added = λ more. record { fresh = fresh; before = appended-part a 0 used (inl (omega arith)); text-added = all };

@@ -59,15 +59,15 @@ fn try_text(rt: &impl Print, number: usize, printed: &mut [u8], tally: Tally) ->
     let mut text = [0; 5];
     let start = spell(number, &mut text);
     let formula = &text[start..];
-    let plain_check::PlainAnswer::Yes(atoms) = plain_check::plain_check(formula) else {
+    let Some(atoms) = plain_check::plain_check(formula) else {
         return Ok(tally);
     };
     rt.write_all(formula)?;
     print!(rt; "\t{atoms}\t")?;
     let used = print(rt, formula, printed, tally.used)?;
     Ok(Tally {
-        plain: std::num::wrapping_add_u64(tally.plain, 1),
-        different: std::num::wrapping_add_u64(tally.different, (tally.used < used) as u64),
+        plain: tally.plain.wrapping_add(1),
+        different: tally.different.wrapping_add(u64::from(tally.used < used)),
         used,
     })
 }

@@ -3,8 +3,8 @@ ghost use Rattle.std.specs.Prelude.{◌≡◌, length, IfOk, OnErr};
 ghost use Rattle.std.specs.Counts.{IsPrefixLen};
 ghost use Rattle.plain_short.specs.Printed.{PrintedRoom, PrintedKept};
 
-use math_conv::Answer;
 use std::io;
+use text::Writer;
 
 // The bytes of the buffer.
 pub const ROOM: usize = 65_536;
@@ -40,7 +40,7 @@ fn convert(formula: &[u8], line: &mut [u8]) -> usize
         &mut work,
         &mut line[1..63],
     );
-    let Answer::Done(n) = answer else {
+    let Ok(n) = answer else {
         return 0;
     };
     n + 2
@@ -58,6 +58,11 @@ fn keep(printed: &mut [u8], used: usize, s: &[u8]) -> usize
     if ROOM - used < n {
         return used;
     }
-    text::put_all(printed, used, n, 0, s);
+    let behind = Writer {
+        to: used,
+        cap: n,
+        count: 0,
+    };
+    behind.put_all(printed, s);
     used + n
 }

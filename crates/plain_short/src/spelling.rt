@@ -11,6 +11,7 @@ pub fn spell(number: usize, text: &mut [u8]) -> usize
 {
     let mut left = number;
     let mut start = text.len();
+    // How many symbols there are shows only as they are spelled, from the last on.
     while 0 < left {
         start -= 1;
         text[start] = SYMBOLS[(left - 1) % 11];

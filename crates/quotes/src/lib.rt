@@ -10,24 +10,27 @@ ghost use Rattle.text_symbols.specs.Parts.{part};
 ghost use Rattle.text.specs.Writer.{Room, Appended, Regions};
 ghost use Rattle.text.specs.Written.{Written};
 ghost use Rattle.text.specs.Stage.{Ready, Staged};
-ghost use Rattle.quotes.specs.Quotes.{end_in, grown_by, gap_at, kept_count, opening_quote, closing_quote, closing_last, ClosedAt};
+ghost use Rattle.quotes.specs.Quotes.{end_in, grown_by, gap_at, kept, opening_quote, ClosedAt};
 
-use text::{Due, Progress};
+use text::{Due, Progress, TextPlace, Writer};
 use text_symbols::Class;
 
-// The end of a text: its last symbol that is not blank (0: none), and the number of blanks behind it.
+// The end of a text: its last symbol that is not blank, and the number of blanks behind it.
 #[derive(Clone, Copy)]
 pub struct TextEnd {
-    pub last: u8,
+    pub last: Option<u8>,
     pub blanks: usize,
 }
 
 impl TextEnd {
-    // The end of a text whose last symbol is not blank, or of none.
+    // The end of a text whose last symbol is not blank.
     pub fn new(last: u8) -> TextEnd
         ensures { result ≡ end_in last }
     {
-        TextEnd { last, blanks: 0 }
+        TextEnd {
+            last: Some(last),
+            blanks: 0,
+        }
     }
 
     // The end after one symbol more.
@@ -37,8 +40,8 @@ impl TextEnd {
     {
         if text_symbols::is_blank(symbol) {
             return TextEnd {
-                last: self.last,
                 blanks: self.blanks + 1,
+                ..self
             };
         }
         TextEnd::new(symbol)
@@ -48,102 +51,79 @@ impl TextEnd {
     pub fn gap(self) -> bool
         ensures { result ≡ gap_at self }
     {
-        let last = self.last;
-        text_symbols::is_alnum(last) | (last == b'}')
+        self.last
+            .is_some_and(|last| text_symbols::is_alnum(last) | (last == b'}'))
     }
 }
 
-// What follows a closing quote: whether it gets a thin space, and the place where the text goes on.
-#[derive(Clone, Copy)]
-pub struct After {
-    pub gap: bool,
-    pub next: usize,
-}
-
-// The text goes on at `i`, or, where a thin space is written, behind the blanks there.
-fn after_quote(s: &[u8], i: usize) -> After
+// Behind a closing quote the text goes on at `i`, or, where a thin space is written, behind the blanks there: then that place is answered.
+fn after_quote(s: &[u8], i: usize) -> Option<usize>
     requires { i ≤ length s.now }
     ensures { ClosedAt s.now i result }
 {
     let next = text_symbols::run_end(s, i, Class::Blank);
     let symbol = text_search::symbol(s, next);
-    if text_symbols::is_alnum(symbol) | (symbol == b'"') {
-        return After { gap: true, next };
-    }
-    After {
-        gap: false,
-        next: i,
-    }
+    (text_symbols::is_alnum(symbol) | (symbol == b'"')).then_some(next)
 }
 
 // Drops the blanks at the end where a thin space is written, and appends it and `\text{`.
-fn put_opening(work: &mut [u8], to: usize, count: usize, tail: TextEnd) -> usize
-    requires room { Room work.old to most_symbols count 8 }
-    requires blanks_le_count { tail.blanks ≤ count }
-    ensures { Appended work.old work.new to most_symbols (kept_count count tail) result (opening_quote tail) }
+fn put_opening(work: &mut [u8], out: Writer, tail: TextEnd) -> Writer
+    requires room { Room work.old out 8 }
+    requires blanks_le_count { tail.blanks ≤ out.count }
+    ensures { Appended work.old work.new (kept out tail) result (opening_quote tail) }
 {
     if tail.gap() {
-        return text::put_all(work, to, text::CAP, count - tail.blanks, b"\\;\\text{");
+        return out.cut(tail.blanks).put_all(work, b"\\;\\text{");
     }
-    text::put_all(work, to, text::CAP, count, b"\\text{")
+    out.put_all(work, b"\\text{")
 }
 
-// Appends `}` and perhaps a thin space.
-fn put_closing(work: &mut [u8], to: usize, count: usize, gap: bool) -> usize
-    requires { Room work.old to most_symbols count 3 }
-    ensures { Appended work.old work.new to most_symbols count result (closing_quote gap) }
+// Writes the text at `source`, quoted text rewritten.
+fn rewrite_quotes(work: &mut [u8], source: TextPlace, out: Writer) -> Writer
+    requires regions { Regions work.old source.at source.n out × (source.n ≤ most_symbols) }
+    requires fresh { out.count ≡ 0 }
+    ensures { Written work.old work.new out result (convert_text_quotes (part source.at source.n work.old)) }
 {
-    if gap {
-        return text::put_all(work, to, text::CAP, count, b"}\\;");
-    }
-    text::put_all(work, to, text::CAP, count, b"}")
-}
-
-// The last symbol that `put_closing` appends.
-fn closing_last(gap: bool) -> u8
-    ensures { result ≡ closing_last gap }
-{
-    if gap {
-        return b';';
-    }
-    b'}'
-}
-
-// Writes the `n` symbols at `from` to `to`, quoted text rewritten. The result is the finished text's length.
-fn rewrite_quotes(work: &mut [u8], from: usize, n: usize, to: usize) -> usize
-    requires { Regions work.old from n to most_symbols 0 × (n ≤ most_symbols) }
-    ensures { Written work.old work.new to most_symbols result (convert_text_quotes (part from n work.old)) }
-{
+    let TextPlace { at: from, n } = source;
     let end = from + n;
-    let mut count = 0;
+    let mut out = out;
     let mut quoted = false;
-    let mut tail = TextEnd::new(0);
+    let mut tail = TextEnd {
+        last: None,
+        blanks: 0,
+    };
     let mut i = 0;
+    // The step varies: behind a closing quote blanks may be passed over.
     while i < n {
         let b = work[from + i];
         if b != b'"' {
-            count = text::put(work, to, text::CAP, count, b);
+            out = out.put(work, b);
             tail = tail.step(b);
             i += 1;
             continue;
         }
-        if quoted {
-            let after = after_quote(&work[from..end], i + 1);
-            count = put_closing(work, to, count, after.gap);
-            tail = TextEnd::new(closing_last(after.gap));
-            quoted = false;
-            i = after.next;
+        if !quoted {
+            out = put_opening(work, out, tail);
+            tail = TextEnd::new(b'{');
+            quoted = true;
+            i += 1;
             continue;
         }
-        count = put_opening(work, to, count, tail);
-        tail = TextEnd::new(b'{');
-        quoted = true;
-        i += 1;
+        quoted = false;
+        let Some(next) = after_quote(&work[from..end], i + 1) else {
+            out = out.put(work, b'}');
+            tail = TextEnd::new(b'}');
+            i += 1;
+            continue;
+        };
+        out = out.put_all(work, b"}\\;");
+        tail = TextEnd::new(b';');
+        i = next;
     }
     if quoted {
-        return text::put(work, to, text::CAP, count, b'}');
+        return out.put(work, b'}');
     }
-    count
+    out
 }
 
 // The stage: `2 "dB"` becomes `2\;\text{dB}`. A last quote that is not closed is closed at the end.
@@ -151,9 +131,8 @@ pub fn convert_text_quotes(work: &mut [u8], text: Progress) -> Progress
     requires { Ready work.old text }
     ensures { Staged work.old work.new text result (stage convert_text_quotes) }
 {
-    let Due::Rewrite(from, n, to, _) = text::due_for(work, text, b"\"") else {
+    let Some(Due { source, out, .. }) = text::due_for(work, text, b"\"") else {
         return text;
     };
-    let count = rewrite_quotes(work, from, n, to);
-    text::finished(to, count)
+    rewrite_quotes(work, source, out).finished()
 }

@@ -1,58 +1,42 @@
 -- What a recorded answer says of a call. Assumes nothing.
 --     recorded    the result that a case records: its LaTeX, or its number
 --     Agrees      the answer and the output are those of a result, by the definitions of a call
---     Vouched     something holds where no difference was found
+--     left_by     the work buffer after a call
 use Rattle.std.specs.Prelude.{◌≡◌, ℕ, suc, ◌<◌, false, cond, List, [], ◌∷◌, ◌++◌, length, drop, replicate, ◌==◌, nat_eq, slice_index, refl}
 use Rattle.std.proofs.Common.{ap, ◌∙◌, subst, arith, ne_eqb}
 use Rattle.spec.specs.Result.{Result, passed, refused}
 use Rattle.spec.specs.Pipeline.{answer_of, output_after}
 use Rattle.text.specs.Stage.{number as numbered, number-between}
 use Rattle.text.specs.declared.Refusal.{Refusal}
-use Rattle.entry_ends.specs.declared.Answer.{Answer}
-use Rattle.entry_ends.specs.declared.Answer.TheVariants.{Done, Refused}
+use Rattle.entry_ends.specs.Answer.{Answer}
+use Rattle.std.specs.Prelude.{Ok, Err}
 use Rattle.entry_ends.specs.Answer.{meaning}
-use Rattle.replay.specs.declared.calls.Difference.{Difference}
-use Rattle.replay.specs.declared.calls.Difference.TheVariants.{Nothing, Number, Count, Bytes, Output, Work}
+use Rattle.std.specs.Prelude.{Option as Maybe, Some, None}
 
-abbrev pub recorded : ℕ → List ℕ → Result (List ℕ)
-recorded number latex = cond (number == 0) (passed latex) (refused number)
+abbrev pub recorded : Maybe ℕ → List ℕ → Result (List ℕ)
+recorded None latex = passed latex
+recorded (Some k) latex = refused k
+
+-- the n bytes of the work buffer after such a call: as they were after number 4, and else zero
+abbrev pub left_by : Maybe ℕ → List ℕ → ℕ → List ℕ
+left_by None old n = replicate n 0
+left_by (Some k) old n = cond (k == 4) old (replicate n 0)
 
 pub record Agrees (result : Result (List ℕ)) (answer : Answer) (old output : List ℕ) : Type 0 where
   pub answers : meaning answer ≡ answer_of result
   pub writes : output ≡ output_after result old
 
-abbrev pub Vouched : Difference → Type 0 → Type 0
-Vouched Nothing P = P
-Vouched Number P = Unit {0}
-Vouched Count P = Unit {0}
-Vouched Bytes P = Unit {0}
-Vouched Output P = Unit {0}
-Vouched Work P = Unit {0}
-
-pub vouched-map : (d : Difference) {P Q : Type 0} → (P → Q) → Vouched d P → Vouched d Q
-vouched-map Nothing f p = f p
-vouched-map Number f p = tt
-vouched-map Count f p = tt
-vouched-map Bytes f p = tt
-vouched-map Output f p = tt
-vouched-map Work f p = tt
-
-not_done : (why : Refusal) → (numbered why == 0) ≡ false
-not_done why = let some = (number-between why).0 in ne_eqb (numbered why) 0 (λ e. omega arith)
-
 -- ---- the two kinds of answers
-module _ {answer : Answer} {number : ℕ} (latex : List ℕ) {old output : List ℕ} where
-  pub done-agrees : {n : ℕ} → answer ≡ Done n → (number ≡ 0) × (n ≡ length latex) × (output ≡ latex ++ drop n old) → Agrees (recorded number latex) answer old output
-  done-agrees e (zero, counted, written) =
+module _ {answer : Answer} {refusal : Maybe ℕ} (latex : List ℕ) {old output : List ℕ} where
+  pub done-agrees : {n : ℕ} → answer ≡ Ok n → (refusal ≡ None) × (n ≡ length latex) × (output ≡ latex ++ drop n old) → Agrees (recorded refusal latex) answer old output
+  done-agrees e (done, counted, written) =
       record {
-        answers = ap meaning e ∙ rw zero (ap passed counted);
-        writes = rw zero (written ∙ ap (λ (k : ℕ). latex ++ drop k old) counted);
+        answers = ap meaning e ∙ rw done (ap passed counted);
+        writes = rw done (written ∙ ap (λ (k : ℕ). latex ++ drop k old) counted);
       }
 
-  pub refused-agrees : {why : Refusal} → answer ≡ Refused why → (numbered why ≡ number) × (output ≡ old) → Agrees (recorded number latex) answer old output
-  refused-agrees {why} e (same, kept) =
-      let other : nat_eq number 0 ≡ false = subst (λ (k : ℕ). (k == 0) ≡ false) same (not_done why) in
-      record { answers = ap meaning e ∙ rw other (ap refused same); writes = rw other kept }
+  pub refused-agrees : {why : Refusal} → answer ≡ Err why → (refusal ≡ Some (numbered why)) × (output ≡ old) → Agrees (recorded refusal latex) answer old output
+  refused-agrees e (same, kept) = record { answers = ap meaning e ∙ rw same refl; writes = rw same kept }
 
 -- ---- zeros
 pub all-zero : (s : List ℕ) → ((k : ℕ) → k < length s → slice_index s k ≡ 0) → s ≡ replicate (length s) 0

@@ -8,13 +8,14 @@ mod calls;
 mod case_file;
 mod summary;
 
-ghost use Rattle.std.specs.Prelude.{◌≤◌, length, IfOk};
+ghost use Rattle.std.specs.Prelude.{◌≤◌, length};
 ghost use Rattle.replay.specs.Fits.{CaseFits};
 
-use case_file::{Case, Head, NextCase};
+use calls::Texts;
+use case_file::Case;
 use std::io::Read;
 use std::{fs, io};
-use summary::TALLY;
+use summary::Tally;
 
 // Where the old contents of a case's buffers may begin, and how many bytes they are taken from.
 const STARTS: usize = 256;
@@ -32,34 +33,19 @@ fn main(rt: HostRuntime) -> io::Result<()> {
 }
 
 fn replay_file<R: Read>(rt: &impl Print, file: &mut R) -> io::Result<()> {
-    let Head::Cases(count) = case_file::read_head(file) else {
+    let Some(count) = case_file::read_head(file) else {
         return println!(rt; "cases.bin is no file of cases");
     };
-    let mut tally = [0; TALLY];
-    let replayed = replay_cases(rt, file, count, &mut tally)?;
-    if replayed < count {
-        return println!(rt; "cases.bin breaks off in case {replayed}");
+    let mut tally = Tally::new();
+    for i in 0..count {
+        if !replay_next(rt, file, i, &mut tally)? {
+            return println!(rt; "cases.bin breaks off in case {i}");
+        }
     }
     if !case_file::is_at_end(file) {
         return println!(rt; "cases.bin goes on behind its last case");
     }
-    summary::write_summary(rt, count as u64, &tally)
-}
-
-// How many cases could be read; all of them have been replayed.
-fn replay_cases<R: Read>(
-    rt: &impl Print,
-    file: &mut R,
-    count: usize,
-    tally: &mut [u64; TALLY],
-) -> io::Result<usize>
-    ensures { IfOk result (λ n. n ≤ count) }
-{
-    let mut i = 0;
-    while i < count && replay_next(rt, file, i, tally)? {
-        i += 1;
-    }
-    Ok(i)
+    tally.write_summary(rt, count)
 }
 
 // Whether there was a case to replay.
@@ -67,16 +53,14 @@ fn replay_next<R: Read>(
     rt: &impl Print,
     file: &mut R,
     i: usize,
-    tally: &mut [u64; TALLY],
+    tally: &mut Tally,
 ) -> io::Result<bool> {
     let mut body = [0; BODY];
-    let NextCase::Whole(case) = case_file::read_case(file, &mut body) else {
+    let Some(case) = case_file::read_case(file, &mut body) else {
         return Ok(false);
     };
-    summary::note(tally, case);
-    if !replay_case(rt, i, case, &body)? {
-        summary::count_one(tally, summary::WRONG);
-    }
+    let is_right = replay_case(rt, i, case, &body)?;
+    tally.note(case, is_right);
     Ok(true)
 }
 
@@ -90,13 +74,11 @@ fn replay_case(rt: &impl Print, i: usize, case: Case, body: &[u8]) -> io::Result
     let table = case.formula;
     let latex = table + case.table;
     let end = latex + case.latex;
-    calls::replay(
-        rt,
-        i,
-        case,
-        &body[..table],
-        &body[table..latex],
-        &body[latex..end],
-        &old[start..],
-    )
+    let texts = Texts {
+        formula: &body[..table],
+        table: &body[table..latex],
+        latex: &body[latex..end],
+        old: &old[start..],
+    };
+    calls::replay(rt, i, case, texts)
 }

@@ -3,63 +3,56 @@ use super::calls::Difference;
 use super::case_file::Case;
 use std::io;
 
-// A tally has the cases by their number, up to 15, then those with display off, those under another tall field than 31, those with definitions and
-// those that went wrong.
-const OFF: usize = 16;
-
-const OTHER_FIELD: usize = 17;
-
-const DEFINED: usize = 18;
-
-pub const WRONG: usize = 19;
-
-pub const TALLY: usize = 20;
-
-pub fn count_one(tally: &mut [u64; TALLY], at: usize) {
-    if at < TALLY {
-        tally[at] = std::num::wrapping_add_u64(tally[at], 1);
-    }
+// How many cases there were: by the number of the refusal, 0 for none; with display off; under another tall field than 31; with definitions;
+// and how many went wrong.
+#[derive(Clone, Copy)]
+pub struct Tally {
+    numbers: [u64; 16],
+    off: u64,
+    other_field: u64,
+    defined: u64,
+    wrong: u64,
 }
 
-pub fn note(tally: &mut [u64; TALLY], case: Case) {
-    let number = case.number;
-    if number <= 15 {
-        count_one(tally, number as usize);
+impl Tally {
+    pub fn new() -> Tally {
+        Tally {
+            numbers: [0; 16],
+            off: 0,
+            other_field: 0,
+            defined: 0,
+            wrong: 0,
+        }
     }
-    if !case.display {
-        count_one(tally, OFF);
-    }
-    if case.field != text::ALL_TALL {
-        count_one(tally, OTHER_FIELD);
-    }
-    if 0 < case.table {
-        count_one(tally, DEFINED);
-    }
-}
 
-pub fn write_summary(rt: &impl Print, cases: u64, tally: &[u64; TALLY]) -> io::Result<()> {
-    write_kinds(rt, cases, tally)?;
-    for number in 1..11 {
-        say_refused(rt, tally[number], number as u64)?;
+    pub fn note(&mut self, case: Case, is_right: bool) {
+        let number = case.setting.refusal.unwrap_or(0) as usize;
+        if number < self.numbers.len() {
+            self.numbers[number] = self.numbers[number].wrapping_add(1);
+        }
+        self.off = self.off.wrapping_add(u64::from(!case.setting.display));
+        self.other_field = self
+            .other_field
+            .wrapping_add(u64::from(case.setting.field != text::ALL_TALL));
+        self.defined = self.defined.wrapping_add(u64::from(0 < case.table));
+        self.wrong = self.wrong.wrapping_add(u64::from(!is_right));
     }
-    say_refused(rt, tally[15], 15)
-}
 
-fn write_kinds(rt: &impl Print, cases: u64, tally: &[u64; TALLY]) -> io::Result<()> {
-    say_count(rt, cases, "cases")?;
-    say_count(rt, tally[WRONG], "wrong")?;
-    say_count(rt, tally[OFF], "with display off")?;
-    say_count(rt, tally[OTHER_FIELD], "under another tall field than 31")?;
-    say_count(rt, tally[DEFINED], "with definitions")?;
-    say_count(
-        rt,
-        tally[0],
-        "done, called again with a full output, a short output and a narrow work buffer",
-    )
-}
-
-fn say_refused(rt: &impl Print, n: u64, number: u64) -> io::Result<()> {
-    println!(rt; "{n} refused {number}")
+    pub fn write_summary(&self, rt: &impl Print, cases: usize) -> io::Result<()> {
+        println!(rt; "{cases} cases")?;
+        println!(rt; "{} wrong", self.wrong)?;
+        println!(rt; "{} with display off", self.off)?;
+        println!(rt; "{} under another tall field than 31", self.other_field)?;
+        println!(rt; "{} with definitions", self.defined)?;
+        println!(rt;
+            "{} done, called again with a full output, a short output and a narrow work buffer",
+            self.numbers[0]
+        )?;
+        for number in 1..11 {
+            println!(rt; "{} refused {number}", self.numbers[number])?;
+        }
+        println!(rt; "{} refused 15", self.numbers[15])
+    }
 }
 
 // Whether nothing differs; what does is written.
@@ -68,31 +61,11 @@ pub fn tell(
     i: usize,
     family: u8,
     how: &str,
-    found: Difference,
+    found: Result<(), Difference>,
 ) -> io::Result<bool> {
-    match found {
-        Difference::Nothing => Ok(true),
-        Difference::Number => tell_wrong(rt, i, family, how, "another answer"),
-        Difference::Count => tell_wrong(rt, i, family, how, "another byte count"),
-        Difference::Bytes => tell_wrong(rt, i, family, how, "other bytes"),
-        Difference::Output => {
-            tell_wrong(rt, i, family, how, "the rest of the output was touched")
-        }
-        Difference::Work => tell_wrong(
-            rt,
-            i,
-            family,
-            how,
-            "the work buffer is not left as it should be",
-        ),
-    }
-}
-
-fn tell_wrong(rt: &impl Print, i: usize, family: u8, how: &str, what: &str) -> io::Result<bool> {
+    let Err(what) = found else {
+        return Ok(true);
+    };
     println!(rt; "case {i} of family {family}, {how}: {what}")?;
     Ok(false)
-}
-
-fn say_count(rt: &impl Print, n: u64, what: &str) -> io::Result<()> {
-    println!(rt; "{n} {what}")
 }

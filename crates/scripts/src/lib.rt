@@ -2,16 +2,40 @@
 // rewriting is a stage of its own, for one sign.
 #![tactic(auto)]
 
-ghost use Rattle.std.specs.Prelude.{[], ◌∷◌};
+ghost use Rattle.std.specs.Prelude.{◌<◌, [], ◌∷◌, length};
 ghost use Rattle.spec.specs.Symbols.{bytes, contains};
-ghost use Rattle.spec.specs.Matches.{wrap_text_match, wrap_multichar_match, script_matches, subscript_matches, superscript_matches};
+ghost use Rattle.spec.specs.Sweep.{sweep};
+ghost use Rattle.spec.specs.Matches.{somewhere, wrap_text_match, wrap_multichar_match, script_matches, subscript_matches, superscript_matches};
 ghost use Rattle.spec.specs.Result.{stage};
 ghost use Rattle.spec.specs.Scripts.{convert_paren_to_brace, wrap_text_subscripts, wrap_multichar_scripts, convert_scripts, convert_subscripts, convert_superscripts};
 ghost use Rattle.text.specs.Stage.{Ready, Staged};
 ghost use Rattle.text.specs.Untouched.{Untouched};
+ghost use Rattle.pattern_rewriting.specs.Edits.{pattern_rule, pattern_at};
 
-use pattern_rewriting::PatternKind;
+use pattern_rewriting::{PatternKind, Rewriting};
 use text::Progress;
+
+// Where the pattern stands, the sign and an opening brace are written, and what the kind keeps.
+fn in_braces(
+    work: &mut [u8],
+    text: Progress,
+    sign: u8,
+    kind: PatternKind,
+    pattern: &[u8],
+) -> Progress
+    requires ready { Ready work.old text }
+    requires pattern_some { 0 < length pattern.now }
+    ensures staged { Staged work.old work.new text result (stage (sweep (pattern_rule kind pattern.now (sign ∷ bytes "{")) 0 0)) }
+    ensures untouched { Untouched work.old work.new text result (somewhere (pattern_at kind pattern.now) 0 ∷ []) }
+{
+    let left = &[sign, b'{'];
+    let rewriting = Rewriting {
+        kind,
+        pattern,
+        left,
+    };
+    pattern_rewriting::convert_pattern(work, text, rewriting)
+}
 
 // `_(`..`)` becomes `_{`..`}`; what stands inside is copied as it is.
 pub fn convert_paren_to_brace(work: &mut [u8], text: Progress, sign: u8) -> Progress
@@ -19,9 +43,7 @@ pub fn convert_paren_to_brace(work: &mut [u8], text: Progress, sign: u8) -> Prog
     ensures staged { Staged work.old work.new text result (stage (convert_paren_to_brace sign)) }
     ensures untouched { Untouched work.old work.new text result (contains (sign ∷ bytes "(") ∷ []) }
 {
-    let pattern = [sign, b'('];
-    let left = [sign, b'{'];
-    pattern_rewriting::convert_pattern(work, text, PatternKind::ParenToBrace, &pattern, &left)
+    in_braces(work, text, sign, PatternKind::ParenToBrace, &[sign, b'('])
 }
 
 // `_\text{`..`}` becomes `_{\text{`..`}}`.
@@ -30,9 +52,9 @@ pub fn wrap_text_subscripts(work: &mut [u8], text: Progress, sign: u8) -> Progre
     ensures staged { Staged work.old work.new text result (stage (wrap_text_subscripts sign)) }
     ensures untouched { Untouched work.old work.new text result (wrap_text_match sign ∷ []) }
 {
+    // The sign comes first, so the pattern is no byte string.
     let pattern = [sign, b'\\', b't', b'e', b'x', b't', b'{'];
-    let left = [sign, b'{'];
-    pattern_rewriting::convert_pattern(work, text, PatternKind::WrapText, &pattern, &left)
+    in_braces(work, text, sign, PatternKind::WrapText, &pattern)
 }
 
 // `_abc` becomes `_{abc}`: LaTeX takes one symbol only.
@@ -41,9 +63,7 @@ pub fn wrap_multichar_scripts(work: &mut [u8], text: Progress, sign: u8) -> Prog
     ensures staged { Staged work.old work.new text result (stage (wrap_multichar_scripts sign)) }
     ensures untouched { Untouched work.old work.new text result (wrap_multichar_match sign ∷ []) }
 {
-    let pattern = [sign];
-    let left = [sign, b'{'];
-    pattern_rewriting::convert_pattern(work, text, PatternKind::WrapMultichar, &pattern, &left)
+    in_braces(work, text, sign, PatternKind::WrapMultichar, &[sign])
 }
 
 fn convert_scripts(work: &mut [u8], text: Progress, sign: u8) -> Progress

@@ -5,24 +5,28 @@
 -- Assumes nothing.
 use Rattle.std.specs.Prelude.{◌≡◌, refl, Bool, true, false, cond, ◌&&◌, ℕ, suc, ◌+◌, ◌-◌, ◌≤◌, ◌<◌, eqb, length}
 use Rattle.std.proofs.Math.Path.{sym, ap, ap₂, subst}
-use Rattle.std.proofs.Common.{◌∙◌, inl, inr, length-take, take-add, get_or-drop, length-take-le, ne_eqb}
+use Rattle.std.proofs.Common.{◌∙◌, inl, inr, take-add, get_or-drop}
 use mathlib.Core.List.{List, [], ◌∷◌, ◌++◌, reverse, reverse_aux, reverse-append, reverse_aux-eq, reverse_aux-append, append_assoc}
 use Rattle.std.proofs.Math.Option.{Option, none, some}
 use Prim.Native.Char.{code}
 use native.Mathlib.Omega.{arith}
 use Rattle.std.proofs.Math.ListN.{get_or, take, drop, length-drop}
-use Rattle.std.proofs.lemmas.List.{length-reverse}
 use Rattle.std.proofs.Math.Seq.{drop-drop}
 use Rattle.spec.specs.Symbols.{bytes, is, script_sign, head, until, starts}
 use Rattle.spec.specs.Closing.{close, matching_delimiter}
 use Rattle.spec.specs.Finish.{script_group, closing, already_sized, Group, tall, tall_group, left_right, size_delimiters_to_content}
-use Rattle.spec.specs.Laws.Symbols.{drop-step, head-drop, starts-short}
+use Rattle.spec.specs.Laws.Symbols.{drop-step, head-drop}
 use Rattle.spec.specs.Laws.Ends.{ends-front}
-use Rattle.text_symbols.specs.Parts.{part, drop-take}
 use Rattle.text_search.specs.Search.{Closes, closes-at, closes-within, closes-nothing, reach, inside-drop, until-drop}
 use Rattle.text_symbols.specs.Places.{before, before-next}
-use Rattle.text_search.specs.declared.Found.{Found}
-use Rattle.text_search.specs.declared.Found.TheVariants.{At, Nothing}
+use Rattle.text_search.specs.Search.{Found}
+use Rattle.std.specs.Prelude.{Some, None, MatchOption, not, ◌||◌}
+use Rattle.std.specs.Bool.{then_some}
+use Rattle.std.specs.List.{ends_with}
+use lib.Pointwise.{pointwise}
+use Rattle.std.proofs.Math.Bool.{and_comm}
+use Rattle.std.proofs.lemmas.Bool.{false≢true}
+use Rattle.spec.specs.Laws.Names.{eqb-sym}
 use Rattle.sizing.specs.Levels.{if_tall, group_of, group_with, group_step, script_step, sizes, sizes-first, sizes-step, close-behind-closer}
 use Rattle.sizing.specs.Alike.{Closer, group, sizes-alike}
 use Rattle.sizing.specs.declared.Piece.{Piece}
@@ -41,16 +45,18 @@ closer-is x = go (is "(" x)
 unfoldable pub sized_at : ℕ → List ℕ → ℕ → List ℕ
 sized_at field s i = sizes field (before s i) (drop i s)
 
--- ---- a word that stands right before a place
--- the last symbols of u are x
-pub before-short : (w s : List ℕ) (i : ℕ) → i < length w → starts (reverse w) (before s i) ≡ false
-before-short w s i h =
-    let lw = length-reverse w in let lt = length-reverse (take i s) in let l = length-take i s in
-    starts-short (reverse w) (before s i) (omega arith)
+-- ---- a word that stands right before a place: the slice's own test of how it ends is that of the definitions
+pointwise-starts : (w t : List ℕ) → length t ≤ length w → pointwise eqb w t ≡ starts w t
+pointwise-starts [] [] h = refl
+pointwise-starts [] (x ∷ t) h = absurd (omega arith)
+pointwise-starts (k ∷ w) [] h = refl
+pointwise-starts (k ∷ w) (x ∷ t) h =
+    ap (λ b. eqb k x && b) (pointwise-starts w t (omega arith)) ∙ and_comm (eqb k x) (starts w t) ∙ ap (λ b. starts w t && b) (eqb-sym k x)
 
-pub before-is : (w s : List ℕ) (i : ℕ) → length w ≤ i → i ≤ length s → starts w (part (i - length w) (i - (i - length w)) s) ≡ starts (reverse w) (before s i)
-before-is w s i h within =
-    sym (ends-front w (take i s) ∙ ap (λ n. starts w (drop (n - length w) (take i s))) (length-take-le i s within) ∙ ap (starts w) (drop-take (i - length w) i s))
+pub before-ends : (w s : List ℕ) (i : ℕ) → ends_with eqb (take i s) w ≡ starts (reverse w) (before s i)
+before-ends w s i =
+    let u = take i s in let l = length-drop (length u - length w) u in
+    pointwise-starts w (drop (length u - length w) u) (omega arith) ∙ sym (ends-front w u)
 
 -- ---- a script group, by the code's test
 module _ (s : List ℕ) (i : ℕ) {a : Bool} {y : ℕ} (sign : a ≡ script_sign (get_or s i 0)) (next : y ≡ get_or s (i + 1) 0) where
@@ -65,12 +71,12 @@ module _ (s : List ℕ) (i : ℕ) {a : Bool} {y : ℕ} (sign : a ≡ script_sign
 
 -- ---- a tall group behind its opener
 abbrev pub closed_group : ℕ → List ℕ → Found → Option Group
-closed_group c s (At k) = some (record { closer = c; content = take k s; behind = drop (k + 1) s })
-closed_group c s Nothing = none
+closed_group c s (Some k) = some (record { closer = c; content = take k s; behind = drop (k + 1) s })
+closed_group c s None = none
 
 abbrev pub closes_at : ℕ → List ℕ → Found → Type 0
-closes_at c s (At k) = get_or s k 0 ≡ c
-closes_at c s Nothing = Unit {0}
+closes_at c s (Some k) = get_or s k 0 ≡ c
+closes_at c s None = Unit {0}
 
 pub record TallIn (field : ℕ) (s : List ℕ) (o c : ℕ) (r : Found) : Type 0 where
   pub within : reach r ≤ length s
@@ -78,17 +84,17 @@ pub record TallIn (field : ℕ) (s : List ℕ) (o c : ℕ) (r : Found) : Type 0 
   pub closes : closes_at c s r
 
 module _ (field : ℕ) (s : List ℕ) (o c : ℕ) {r : Found} (f : Closes s r (close o c 0 s)) where
-  pub tall-none : r ≡ Nothing → TallIn field s o c Nothing
+  pub tall-none : r ≡ None → TallIn field s o c None
   tall-none e = record { within = omega arith; group = ap (group_of field c s) (closes-nothing f e); closes = tt }
 
-  module _ {k : ℕ} (e : r ≡ At k) where
+  module _ {k : ℕ} (e : r ≡ Some k) where
     found : group_of field c s (close o c 0 s) ≡ if_tall field c (take k s) (drop (k + 1) s)
     found = ap (group_of field c s) (closes-at f e) ∙ ap (λ m. if_tall field c m (drop (k + 1) s)) (inside-drop s k (closes-within f e))
 
-    pub tall-low : tall field (take k s) ≡ false → TallIn field s o c Nothing
+    tall-low : tall field (take k s) ≡ false → TallIn field s o c None
     tall-low t = record { within = omega arith; group = found ∙ ap (λ b. cond b (some (record { closer = c; content = take k s; behind = drop (k + 1) s })) none) t; closes = tt }
 
-    pub tall-high : tall field (take k s) ≡ true → TallIn field s o c (At k)
+    tall-high : tall field (take k s) ≡ true → TallIn field s o c (Some k)
     tall-high t =
         let w = closes-within f e in
         let b = close-behind-closer o c 0 s (drop (k + 1) s) (closes-at f e) in
@@ -100,6 +106,10 @@ module _ (field : ℕ) (s : List ℕ) (o c : ℕ) {r : Found} (f : Closes s r (c
           closes = ap (λ m. get_or s m 0) (sym n) ∙ b.closer;
         }
 
+    pub tall-if : (b : Bool) → b ≡ tall field (take k s) → TallIn field s o c (then_some b k)
+    tall-if true t = tall-high (sym t)
+    tall-if false t = tall-low (sym t)
+
 -- ---- a tall group at a place
 pub record TallAt (field : ℕ) (s : List ℕ) (i : ℕ) (r : Found) : Type 0 where
   pub within : reach r ≤ length (drop (i + 1) s)
@@ -107,7 +117,7 @@ pub record TallAt (field : ℕ) (s : List ℕ) (i : ℕ) (r : Found) : Type 0 wh
   pub closes : closes_at (closer_of (get_or s i 0)) (drop (i + 1) s) r
 
 module _ (field : ℕ) (s : List ℕ) (i : ℕ) where
-  pub tall-sized : already_sized (before s i) ≡ true → TallAt field s i Nothing
+  tall-sized : already_sized (before s i) ≡ true → TallAt field s i None
   unfolding tall_group
   tall-sized e = record { within = omega arith; group = rw (e, tall_group); closes = tt }
 
@@ -116,24 +126,51 @@ module _ (field : ℕ) (s : List ℕ) (i : ℕ) where
     unfolding tall_group
     open-group = rw (e, tall_group)
 
-    pub tall-here : (x c : ℕ) {r : Found} → get_or s i 0 ≡ x → closing x ≡ some c → closer_of x ≡ c → TallIn field (drop (i + 1) s) x c r → TallAt field s i r
-    tall-here x c {r} same is_some closer t =
-        let q : closer_of (get_or s i 0) ≡ c = ap closer_of same ∙ closer in
-        record {
-          within = t.within;
-          group = open-group ∙ ap (λ y. group_with field y (drop (i + 1) s) (closing y)) same ∙ ap (group_with field x (drop (i + 1) s)) is_some
-              ∙ t.group ∙ ap (λ d. closed_group d (drop (i + 1) s) r) (sym q);
-          closes = subst (λ d. closes_at d (drop (i + 1) s) r) (sym q) t.closes;
-        }
+    tall-here : {r : Found} → closing (get_or s i 0) ≡ some (closer_of (get_or s i 0)) → TallIn field (drop (i + 1) s) (get_or s i 0) (closer_of (get_or s i 0)) r → TallAt field s i r
+    tall-here opens t =
+        record { within = t.within; group = open-group ∙ ap (group_with field (get_or s i 0) (drop (i + 1) s)) opens ∙ t.group; closes = t.closes }
 
-    pub tall-other : (get_or s i 0 ≡ code "(" → ⊥) → (get_or s i 0 ≡ code "[" → ⊥) → TallAt field s i Nothing
-    tall-other a b =
-        let shut : closing (get_or s i 0) ≡ none = rw (ne_eqb (get_or s i 0) (code "(") a, ne_eqb (get_or s i 0) (code "[") b, closing) in
-        record {
-          within = omega arith;
-          group = open-group ∙ ap (group_with field (get_or s i 0) (drop (i + 1) s)) shut;
-          closes = tt;
-        }
+    tall-other : closing (get_or s i 0) ≡ none → TallAt field s i None
+    tall-other shut =
+        record { within = omega arith; group = open-group ∙ ap (group_with field (get_or s i 0) (drop (i + 1) s)) shut; closes = tt }
+
+-- by the code's test: a delimiter that opens, and has no size
+abbrev opens : ℕ → Bool
+opens x = is "(" x || is "[" x
+
+closing-opens : (x : ℕ) → opens x ≡ true → closing x ≡ some (closer_of x)
+closing-opens x e = go (is "(" x) refl (is "[" x) refl e
+  where
+    go : (a : Bool) → is "(" x ≡ a → (b : Bool) → is "[" x ≡ b → a || b ≡ true → closing x ≡ some (closer_of x)
+    go true f b g h = rw (f, closing)
+    go false f true g h = rw (f, g, closing)
+    go false f false g h = absurd (false≢true h)
+
+closing-other : (x : ℕ) → opens x ≡ false → closing x ≡ none
+closing-other x e = go (is "(" x) refl (is "[" x) refl e
+  where
+    go : (a : Bool) → is "(" x ≡ a → (b : Bool) → is "[" x ≡ b → a || b ≡ false → closing x ≡ none
+    go true f b g h = absurd (false≢true (sym h))
+    go false f true g h = absurd (false≢true (sym h))
+    go false f false g h = rw (f, g, closing)
+
+module _ (field : ℕ) (s : List ℕ) (i : ℕ) {b : Bool} (sized : b ≡ already_sized (before s i)) where
+  pub tall-closed : not (opens (get_or s i 0)) || b ≡ true → TallAt field s i None
+  tall-closed t = go (opens (get_or s i 0)) refl b (sym sized) t
+    where
+      go : (a : Bool) → opens (get_or s i 0) ≡ a → (b : Bool) → already_sized (before s i) ≡ b → not a || b ≡ true → TallAt field s i None
+      go a f true g h = tall-sized field s i g
+      go true f false g h = absurd (false≢true h)
+      go false f false g h = tall-other field s i g (closing-other (get_or s i 0) f)
+
+  pub tall-open :
+      not (opens (get_or s i 0)) || b ≡ false → {r : Found} → TallIn field (drop (i + 1) s) (get_or s i 0) (closer_of (get_or s i 0)) r → TallAt field s i r
+  tall-open t {r} inside = go (opens (get_or s i 0)) refl b (sym sized) t
+    where
+      go : (a : Bool) → opens (get_or s i 0) ≡ a → (b : Bool) → already_sized (before s i) ≡ b → not a || b ≡ false → TallAt field s i r
+      go true f true g h = absurd (false≢true (sym h))
+      go false f b g h = absurd (false≢true (sym h))
+      go true f false g h = tall-here field s i g (closing-opens (get_or s i 0) f) inside
 
 -- ---- the pieces
 pub record PieceKept (field : ℕ) (s : List ℕ) (i k : ℕ) : Type 0 where
@@ -159,7 +196,7 @@ module _ (field : ℕ) (s : List ℕ) (i : ℕ) (inside : i < length s) where
   here = ap (sizes field (before s i)) (drop-step s i inside) ∙ sizes-step field (before s i) (get_or s i 0) (drop (i + 1) s)
 
   module _ {r : Found} (f : Closes (drop (i + 1) s) r (script_group (get_or s i 0) (drop (i + 1) s))) where
-    pub script-piece : {j : ℕ} → r ≡ At j → PieceFor field s i (Keep (j + 2))
+    pub script-piece : {j : ℕ} → r ≡ Some j → PieceFor field s i (Keep (j + 2))
     unfolding sized_at
     script-piece {j} e =
         let w = closes-within f e in let l = length-drop (i + 1) s in let d = length-drop i s in
@@ -180,11 +217,11 @@ module _ (field : ℕ) (s : List ℕ) (i : ℕ) (inside : i < length s) where
               ∙ ap₂ (λ p q. take (j + 2) (drop i s) ++ sizes field p q) (passed-many s i (j + 2)) (behind ∙ drop-drop (j + 2) i s);
         }
 
-    module _ (e : r ≡ Nothing) where
+    module _ (e : r ≡ None) where
       no-script : sized_at field s i ≡ group_step (sizes field) (before s i) (get_or s i 0) (drop (i + 1) s) (tall_group field (before s i) (get_or s i 0) (drop (i + 1) s))
       no-script = here ∙ ap (script_step field (sizes field) (before s i) (get_or s i 0) (drop (i + 1) s)) (closes-nothing f e)
 
-      pub symbol-piece : {q : Found} → TallAt field s i q → q ≡ Nothing → PieceFor field s i (Keep 1)
+      symbol-piece : {q : Found} → TallAt field s i q → q ≡ None → PieceFor field s i (Keep 1)
       unfolding sized_at
       symbol-piece t n =
           let g = t.group ∙ ap (closed_group (closer_of (get_or s i 0)) (drop (i + 1) s)) n in
@@ -196,7 +233,7 @@ module _ (field : ℕ) (s : List ℕ) (i : ℕ) (inside : i < length s) where
                 ∙ ap (λ u. take 1 u ++ sized_at field s (i + 1)) (sym (drop-step s i inside));
           }
 
-      pub tall-piece : {q : Found} {k : ℕ} → TallAt field s i q → q ≡ At k → PieceFor field s i (Tall k)
+      tall-piece : {q : Found} {k : ℕ} → TallAt field s i q → q ≡ Some k → PieceFor field s i (Tall k)
       unfolding sized_at
       tall-piece {k = k} t n =
           let x = get_or s i 0 in let b = drop (i + 1) s in let c = closer_of x in let o = before s i in
@@ -225,3 +262,7 @@ module _ (field : ℕ) (s : List ℕ) (i : ℕ) (inside : i < length s) where
                 ∙ ap₂ (λ p u. m ++ sizes field p u) (sym last) behind
                 ∙ ap (λ u. left_right x c u ++ sized_at field s (i + k + 2)) (sizes-first field (take k b));
           }
+
+      pub other-piece : {q : Found} (p : Piece) → TallAt field s i q → MatchOption q (p ≡ Keep 1) (λ k. p ≡ Tall k) → PieceFor field s i p
+      other-piece {q = None} p t m = subst (PieceFor field s i) (sym m) (symbol-piece t refl)
+      other-piece {q = Some k} p t m = subst (PieceFor field s i) (sym m) (tall-piece t refl)

@@ -1,12 +1,15 @@
 -- The turns of the sizing loop: what a piece says has been written. Assumes nothing.
 --     DelimitersSized     what the function ensures
 use Rattle.std.specs.Prelude.{◌≡◌, List, [], ◌∷◌, ◌++◌, ℕ, ◌+◌, ◌-◌, ◌*◌, ◌≤◌, length, get_or, take, drop}
-use Rattle.std.proofs.Common.{sym, ap, ap₂, ◌∙◌, subst, arith, drop_of_length-le}
+use Rattle.std.proofs.Common.{add_assoc, sym, ap, ap₂, ◌∙◌, subst, arith, drop_of_length-le}
 use Rattle.spec.specs.Result.{most_symbols}
 use Rattle.spec.specs.Symbols.{bytes}
 use Rattle.spec.specs.Finish.{left_right, size_delimiters_to_content}
 use Rattle.text_symbols.specs.Parts.{part, length_part, sub_part}
-use Rattle.text.specs.Writer.{Regions, Appended, Apart, apart-part, appended-more, appended-part}
+use Rattle.text.specs.declared.writer.Writer.{Writer}
+use Rattle.text.specs.declared.writer.Writer.{Writer}
+use Rattle.text.specs.declared.TextPlace.{TextPlace}
+use Rattle.text.specs.Writer.{Regions, Appended, Apart, apart-part, apart-kept, appended-more, appended-part}
 use Rattle.text_symbols.specs.Places.{before}
 use Rattle.text.specs.Filling.{Filling, filling-more, filling-source, filling-symbol}
 use Rattle.sizing.specs.Levels.{sizes, sizes-first, sizes-end}
@@ -14,9 +17,9 @@ use Rattle.sizing.specs.Pieces.{sized_at, closer_of, PieceFor, PieceKept, Grown}
 use Rattle.sizing.specs.declared.Piece.{Piece}
 use Rattle.sizing.specs.declared.Piece.TheVariants.{Keep, Tall}
 
-pub record DelimitersSized (field : ℕ) (w w' : List ℕ) (from n to count r : ℕ) : Type 0 where
-  pub appended : Appended w w' to most_symbols count r (size_delimiters_to_content field (part from n w))
-  pub few : r ≤ count + 7 * n
+pub record DelimitersSized (field : ℕ) (w w' : List ℕ) (source : TextPlace) (o r : Writer) : Type 0 where
+  pub appended : Appended w w' o r (size_delimiters_to_content field (part source.at source.n w))
+  pub few : r.count ≤ o.count + 7 * source.n
 
 pub sized-first : (field : ℕ) (s : List ℕ) → sized_at field s 0 ≡ size_delimiters_to_content field s
 unfolding sized_at
@@ -27,8 +30,8 @@ unfolding sized_at
 sized-end field s i h = ap (sizes field (before s i)) (drop_of_length-le s h) ∙ sizes-end field (before s i)
 
 module _
-    {w₀ w : List ℕ} {from n to count₀ count : ℕ} (field i : ℕ) {whole : List ℕ}
-    (regions : Regions w₀ from n to most_symbols count₀) (filling : Filling w₀ w to most_symbols count₀ count (sized_at field (part from n w₀) i) whole)
+    {w₀ w : List ℕ} {from n : ℕ} {o₀ o : Writer} (field i : ℕ) {whole : List ℕ}
+    (regions : Regions w₀ from n o₀) (filling : Filling w₀ w o₀ o (sized_at field (part from n w₀) i) whole)
     (r : Piece) (piece : PieceFor field (part from (from + n - from) w) i r)
   where
     source : PieceFor field (part from n w₀) i r
@@ -44,32 +47,33 @@ module _
       pub kept-fits : i + k ≤ n
       kept-fits = let l = length_part from n w₀ regions.source in let f = kept_piece.fits in omega arith
 
-      pub kept_more : {w' : List ℕ} {count' : ℕ} → Appended w w' to most_symbols count count' (part (from + i) k w) → Filling w₀ w' to most_symbols count₀ count' (sized_at field (part from n w₀) (i + k)) whole
+      pub kept_more : {w' : List ℕ} {o' : Writer} → Appended w w' o o' (part (from + i) k w) → Filling w₀ w' o₀ o' (sized_at field (part from n w₀) (i + k)) whole
       kept_more a = filling-more filling a (kept_piece.step ∙ ap (λ t. t ++ sized_at field (part from n w₀) (i + k)) (sym (symbols i k kept-fits)))
 
     module _ {k : ℕ} (e : r ≡ Tall k) where
       grown-piece : Grown field (part from n w₀) i k
       grown-piece = subst (PieceFor field (part from n w₀) i) e source
 
-      pub grown-fits : i + k + 2 ≤ n
+      pub grown-fits : i + (k + 2) ≤ n
       grown-fits = let l = length_part from n w₀ regions.source in let f = grown-piece.fits in omega arith
 
-      pub inner-apart : Apart (from + (i + 1)) k to most_symbols
-      inner-apart = apart-part from n to most_symbols (i + 1) k regions.apart (let f = grown-fits in omega arith)
+      pub inner-apart : Apart (from + (i + 1)) k o
+      inner-apart = apart-part from n o (i + 1) k (apart-kept from n filling.appended regions.apart) (let f = grown-fits in omega arith)
 
       pub grown-more :
-          {w₁ w₂ w₃ : List ℕ} {a b count' : ℕ} {c : ℕ}
-          → Appended w w₁ to most_symbols count a (bytes "\\left" ++ get_or w (from + i) 0 ∷ [])
-          → DelimitersSized field w₁ w₂ (from + (i + 1)) k to a b
+          {w₁ w₂ w₃ : List ℕ} {o₁ o₂ o₃ : Writer} {c : ℕ}
+          → Appended w w₁ o o₁ (bytes "\\left" ++ get_or w (from + i) 0 ∷ [])
+          → DelimitersSized field w₁ w₂ (record { at = from + (i + 1); n = k }) o₁ o₂
           → c ≡ closer_of (get_or w (from + i) 0)
-          → Appended w₂ w₃ to most_symbols b count' (bytes "\\right" ++ c ∷ [])
-          → Filling w₀ w₃ to most_symbols count₀ count' (sized_at field (part from n w₀) (i + k + 2)) whole
-      grown-more {c = c} left inner closer right =
+          → Appended w₂ w₃ o₂ o₃ (bytes "\\right" ++ c ∷ [])
+          → Filling w₀ w₃ o₀ o₃ (sized_at field (part from n w₀) (i + (k + 2))) whole
+      grown-more {w₃ = w₃} {o₃ = o₃} {c = c} left inner closer right =
           let f = grown-fits in
           let x = get_or (part from n w₀) i 0 in
           let s : get_or w (from + i) 0 ≡ x = filling-symbol filling from n regions.apart i (omega arith) in
           let t : part (from + (i + 1)) k _ ≡ take k (drop (i + 1) (part from n w₀)) = appended-part left (from + (i + 1)) k inner-apart ∙ symbols (i + 1) k (omega arith) in
-          filling-more filling (appended-more (appended-more left inner.appended) right)
+          subst (λ j. Filling w₀ w₃ o₀ o₃ (sized_at field (part from n w₀) j) whole) (add_assoc i k 2)
+          (filling-more filling (appended-more (appended-more left inner.appended) right)
           (grown-piece.step
           ∙ sym (ap (λ m. left_right (get_or w (from + i) 0) c (size_delimiters_to_content field m) ++ sized_at field (part from n w₀) (i + k + 2)) t
-          ∙ ap₂ (λ y d. left_right y d (size_delimiters_to_content field (take k (drop (i + 1) (part from n w₀)))) ++ sized_at field (part from n w₀) (i + k + 2)) s (closer ∙ ap closer_of s)))
+          ∙ ap₂ (λ y d. left_right y d (size_delimiters_to_content field (take k (drop (i + 1) (part from n w₀)))) ++ sized_at field (part from n w₀) (i + k + 2)) s (closer ∙ ap closer_of s))))

@@ -5,7 +5,6 @@
 mod pieces;
 
 ghost use Rattle.std.specs.Prelude.{◌+◌, ◌≡◌, [], ◌∷◌, ◌++◌, length};
-ghost use Rattle.spec.specs.Symbols.{bytes};
 ghost use Rattle.spec.specs.Result.{stage, most_symbols};
 ghost use Rattle.spec.specs.Finish.{size_delimiters_to_content};
 ghost use Rattle.text.specs.Writer.{Room, Appended, Regions};
@@ -14,7 +13,7 @@ ghost use Rattle.sizing.specs.Pieces.{closer_of};
 ghost use Rattle.sizing.specs.Turns.{DelimitersSized};
 
 pub use pieces::piece_at;
-use text::Progress;
+use text::{Progress, TextPlace, Writer};
 
 // What is done at a place.
 #[derive(Clone, Copy)]
@@ -29,57 +28,46 @@ pub enum Piece {
 fn closer_of(b: u8) -> u8
     ensures { result ≡ closer_of b }
 {
-    if b == b'(' {
-        return b')';
-    }
-    b']'
+    if b == b'(' { b')' } else { b']' }
 }
 
 // Appends a command and its delimiter.
-fn put_sized(work: &mut [u8], to: usize, count: usize, command: &[u8], b: u8) -> usize
-    requires { Room work.old to most_symbols count (length command.now + 1) }
-    ensures { Appended work.old work.new to most_symbols count result (command.now ++ b ∷ []) }
+fn put_sized(work: &mut [u8], out: Writer, command: &[u8], b: u8) -> Writer
+    requires { Room work.old out (length command.now + 1) }
+    ensures { Appended work.old work.new out result (command.now ++ b ∷ []) }
 {
-    let end = text::put_all(work, to, text::CAP, count, command);
-    text::put(work, to, text::CAP, end, b)
+    let end = out.put_all(work, command);
+    end.put(work, b)
 }
 
-fn put_left(work: &mut [u8], to: usize, count: usize, b: u8) -> usize
-    requires { Room work.old to most_symbols count 6 }
-    ensures { Appended work.old work.new to most_symbols count result (bytes "\\left" ++ b ∷ []) }
+// Appends the text at `source`, with tall groups sized, on every level.
+fn size(work: &mut [u8], source: TextPlace, out: Writer, field: u32) -> Writer
+    requires { Regions work.old source.at source.n out }
+    ensures { DelimitersSized field work.old work.new source out result }
 {
-    put_sized(work, to, count, b"\\left", b)
-}
-
-fn put_right(work: &mut [u8], to: usize, count: usize, b: u8) -> usize
-    requires { Room work.old to most_symbols count 7 }
-    ensures { Appended work.old work.new to most_symbols count result (bytes "\\right" ++ b ∷ []) }
-{
-    put_sized(work, to, count, b"\\right", b)
-}
-
-// Appends the `n` symbols at `from`, with tall groups sized, on every level.
-fn size(work: &mut [u8], from: usize, n: usize, to: usize, count: usize, field: u32) -> usize
-    requires { Regions work.old from n to most_symbols count }
-    ensures { DelimitersSized field work.old work.new from n to count result }
-{
+    let TextPlace { at: from, n } = source;
     let end = from + n;
-    let mut total = count;
+    let mut total = out;
     let mut i = 0;
+    // The step varies: a script group or a tall one is passed as a whole.
     while i < n {
         let at = from + i;
         match piece_at(&work[from..end], i, field) {
             Piece::Keep(k) => {
-                total = text::copy(work, at, k, to, text::CAP, total);
+                total = total.copy(work, at, k);
                 i += k;
             }
             Piece::Tall(k) => {
                 let b = work[at];
-                total = put_left(work, to, total, b);
+                total = put_sized(work, total, b"\\left", b);
                 let inside = i + 1;
-                total = size(work, from + inside, k, to, total, field);
-                total = put_right(work, to, total, closer_of(b));
-                i = i + k + 2;
+                let content = TextPlace {
+                    at: from + inside,
+                    n: k,
+                };
+                total = size(work, content, total, field);
+                total = put_sized(work, total, b"\\right", closer_of(b));
+                i += k + 2;
             }
         }
     }
@@ -91,14 +79,12 @@ pub fn size_delimiters_to_content(work: &mut [u8], text: Progress, field: u32) -
     requires { Ready work.old text }
     ensures { Staged work.old work.new text result (stage (size_delimiters_to_content field)) }
 {
-    let Progress::Text(from, n) = text else {
-        return text;
-    };
+    let source = text?;
+    let TextPlace { at: from, n } = source;
     let end = from + n;
     if !pieces::has_delimiter(&work[from..end]) {
         return text;
     }
-    let to = text::CAP - from;
-    let count = size(work, from, n, to, 0, field);
-    text::finished(to, count)
+    let out = Writer::new(text::CAP - from);
+    size(work, source, out, field).finished()
 }

@@ -1,23 +1,19 @@
 // What stands at a place of a level: a script group, a tall group, or a symbol.
 ghost use Rattle.std.specs.Prelude.{◌+◌, ◌%◌, ◌≤◌, ◌<◌, ◌≡◌, ◌&&◌, ◌||◌, reverse, eqb, length, get_or, drop};
 ghost use Rattle.text_search.specs.Half.{half_work};
-ghost use Rattle.spec.specs.Symbols.{bytes, starts, contains};
+ghost use Rattle.spec.specs.Symbols.{bytes, contains};
 ghost use Rattle.spec.specs.Finish.{tall, script_group, already_sized};
 ghost use Rattle.text_search.specs.Search.{Closes};
 ghost use Rattle.text_symbols.specs.Places.{before};
 ghost use Rattle.sizing.specs.Pieces.{TallIn, TallAt, PieceFor};
 
-use super::Piece;
-use text_search::Found;
+use super::{Piece, closer_of};
 
-// Whether the command counts and occurs. It counts by the last of the bits: those of the tall field down to its own.
+// Whether the command counts and occurs. It counts by the last of the bits: those of the tall field down to its own. The bits are the interface's.
 fn has(s: &[u8], command: &[u8], bits: u32) -> bool
     ensures { result ≡ eqb (bits % 2) 1 && contains command.now s.now }
 {
-    if bits % 2 == 0 {
-        return false;
-    }
-    text_search::contains(s, command)
+    (bits % 2 == 1) && text_search::contains(s, command)
 }
 
 fn is_tall(s: &[u8], field: u32) -> bool
@@ -36,28 +32,17 @@ pub fn has_delimiter(s: &[u8]) -> bool
     text_search::contains(s, b"(") | text_search::contains(s, b"[")
 }
 
-// Whether the word stands right before a place.
-fn stands_before(s: &[u8], i: usize, word: &[u8]) -> bool
-    requires { i ≤ length s.now }
-    ensures { result ≡ starts (reverse word.now) (before s.now i) }
-{
-    if i < word.len() {
-        return false;
-    }
-    let start = i - word.len();
-    text_search::starts_with(&s[start..i], word)
-}
-
 // Whether the delimiter at a place has its size already.
 fn is_sized(s: &[u8], i: usize) -> bool
     requires { i ≤ length s.now }
     ensures { result ≡ already_sized (before s.now i) }
 {
-    stands_before(s, i, b"\\left") | stands_before(s, i, b"\\right")
+    let behind = &s[..i];
+    behind.ends_with(b"\\left") | behind.ends_with(b"\\right")
 }
 
 // The closer of the script group that begins at a place, counted from behind its sign.
-fn script_at(s: &[u8], i: usize) -> Found
+fn script_at(s: &[u8], i: usize) -> Option<usize>
     requires { (i < length s.now) × (length s.now ≤ half_work) }
     ensures { Closes (drop (i + 1) s.now) result (script_group (get_or s.now i 0) (drop (i + 1) s.now)) }
 {
@@ -65,40 +50,29 @@ fn script_at(s: &[u8], i: usize) -> Found
     if text_symbols::is_script_sign(s[i]) & (text_search::symbol(s, next) == b'{') {
         return text_closing::matching_delimiter(&s[next..], b'{', b'}');
     }
-    Found::Nothing
+    None
 }
 
 // The closer of a bracket that stands before the text, if what lies between is tall.
-fn tall_inside(s: &[u8], opener: u8, closer: u8, field: u32) -> Found
+fn tall_inside(s: &[u8], opener: u8, closer: u8, field: u32) -> Option<usize>
     requires { length s.now ≤ half_work }
     ensures { TallIn field s.now opener closer result }
 {
-    let Found::At(k) = text_closing::find_closer(s, opener, closer) else {
-        return Found::Nothing;
-    };
-    if is_tall(&s[0..k], field) {
-        return Found::At(k);
-    }
-    Found::Nothing
+    let k = text_closing::find_closer(s, opener, closer)?;
+    is_tall(&s[..k], field).then_some(k)
 }
 
 // The closer of the tall group that begins at a place, counted from behind its opener.
-fn tall_at(s: &[u8], i: usize, field: u32) -> Found
+fn tall_at(s: &[u8], i: usize, field: u32) -> Option<usize>
     requires { (i < length s.now) × (length s.now ≤ half_work) }
     ensures { TallAt field s.now i result }
 {
-    let next = i + 1;
-    if is_sized(s, i) {
-        return Found::Nothing;
-    }
     let b = s[i];
-    if b == b'(' {
-        return tall_inside(&s[next..], b'(', b')', field);
+    let opens = (b == b'(') | (b == b'[');
+    if !opens | is_sized(s, i) {
+        return None;
     }
-    if b == b'[' {
-        return tall_inside(&s[next..], b'[', b']', field);
-    }
-    Found::Nothing
+    tall_inside(&s[i + 1..], b, closer_of(b), field)
 }
 
 // What is done at a place: a script group comes before a tall one.
@@ -106,11 +80,8 @@ pub fn piece_at(s: &[u8], i: usize, field: u32) -> Piece
     requires { (i < length s.now) × (length s.now ≤ half_work) }
     ensures { PieceFor field s.now i result }
 {
-    let Found::At(j) = script_at(s, i) else {
-        let Found::At(k) = tall_at(s, i, field) else {
-            return Piece::Keep(1);
-        };
-        return Piece::Tall(k);
-    };
-    Piece::Keep(j + 2)
+    if let Some(j) = script_at(s, i) {
+        return Piece::Keep(j + 2);
+    }
+    tall_at(s, i, field).map_or(Piece::Keep(1), Piece::Tall)
 }

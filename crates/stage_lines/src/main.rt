@@ -10,8 +10,7 @@ ghost use Rattle.text.specs.Stage.{Ready};
 
 use call_quotes::Quotes;
 use std::io;
-use text::Progress;
-use text_search::Found;
+use text::{Progress, TextPlace, Writer};
 
 // The bytes of all lines that there is room for.
 const MOST: usize = 65_536;
@@ -54,14 +53,14 @@ fn convert_syntax(work: &mut [u8], section: usize, text: Progress) -> Progress
 }
 
 // The end of the first part.
-fn first_part(s: &[u8]) -> Found
+fn first_part(s: &[u8]) -> Option<usize>
     requires { length s.now ≤ most_symbols }
 {
     let part = call_commas::split_top_level_commas(s, 0, Quotes::new());
-    Found::At(part.end)
+    Some(part.end)
 }
 
-fn search(section: usize, s: &[u8]) -> Found
+fn search(section: usize, s: &[u8]) -> Option<usize>
     requires { length s.now ≤ most_symbols }
 {
     match section {
@@ -79,28 +78,21 @@ fn show(rt: &impl Print, work: &[u8], progress: Progress) -> io::Result<()>
     requires { Ready work.now progress }
 {
     match progress {
-        Progress::Text(at, n) => {
+        Ok(TextPlace { at, n }) => {
             let end = at + n;
             rt.write_all(&work[at..end])
         }
-        Progress::Refused(why) => {
-            let number = text::number(why);
+        Err(why) => {
+            let number = u64::from(why);
             print!(rt; "refused {number}")
         }
     }
 }
 
-fn show_place(rt: &impl Print, found: Found) -> io::Result<()> {
+fn show_number(rt: &impl Print, found: Option<usize>, none: &str) -> io::Result<()> {
     match found {
-        Found::At(k) => print!(rt; "{k}"),
-        Found::Nothing => print!(rt; "nothing"),
-    }
-}
-
-fn show_atoms(rt: &impl Print, answer: plain_check::PlainAnswer) -> io::Result<()> {
-    match answer {
-        plain_check::PlainAnswer::Yes(n) => print!(rt; "{n}"),
-        plain_check::PlainAnswer::No => print!(rt; "no"),
+        Some(k) => print!(rt; "{k}"),
+        None => print!(rt; "{none}"),
     }
 }
 
@@ -108,20 +100,20 @@ fn run(rt: &impl Print, work: &mut [u8], section: usize, formula: &[u8]) -> io::
     requires least_work_in_bounds { least_work ≤ length work.old }
     requires formula_len_bound { length formula.now ≤ most_symbols }
 {
-    let n = text::put_all(work, 0, text::CAP, 0, formula);
-    let progress = convert(work, section, Progress::Text(0, n));
-    show(rt, work, progress)
+    let progress = Writer::new(0).put_all(work, formula).finished();
+    let converted = convert(work, section, progress);
+    show(rt, work, converted)
 }
 
 fn answer(rt: &impl Print, section: usize, s: &[u8]) -> io::Result<()> {
     if 26 < section {
-        return show_atoms(rt, plain_check::plain_check(s));
+        return show_number(rt, plain_check::plain_check(s), "no");
     }
     if text::CAP < s.len() {
         return print!(rt; "a long line");
     }
     if 20 <= section {
-        return show_place(rt, search(section, s));
+        return show_number(rt, search(section, s), "nothing");
     }
     let mut work = [0u8; 32768];
     run(rt, &mut work, section, s)
@@ -131,15 +123,13 @@ fn answer(rt: &impl Print, section: usize, s: &[u8]) -> io::Result<()> {
 fn line(s: &[u8]) -> usize
     ensures { result ≤ length s.now }
 {
-    match text_search::find(s, b"\n") {
-        Found::At(k) => k,
-        Found::Nothing => s.len(),
-    }
+    text_search::find(s, b"\n").unwrap_or(s.len())
 }
 
 fn answer_lines(rt: &impl Print, s: &[u8]) -> io::Result<()> {
     let mut section = 0;
     let mut start = 0;
+    // The step varies: a line says where the next one begins.
     while start < s.len() {
         let end = start + line(&s[start..]);
         if s[start] == b'#' {

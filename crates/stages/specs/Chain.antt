@@ -13,8 +13,9 @@ use Rattle.spec.specs.Table.{definitions}
 use Rattle.spec.specs.Pipeline.{mark_solidus, on_display, definitions_or}
 use Rattle.spec.specs.Laws.Result.{unpassed}
 use Rattle.text.specs.Stage.{shown, Ready, Answered, Staged, answered-ready, answered-then, staged-then}
-use Rattle.text.specs.declared.Progress.{Progress}
-use Rattle.text.specs.declared.Progress.TheVariants.{Text, Refused}
+use Rattle.text.specs.Stage.{Progress}
+use Rattle.text.specs.Stage.{Text}
+use Rattle.std.specs.Prelude.{Ok, Err}
 use Rattle.text_symbols.specs.Parts.{part}
 use Rattle.held_stages.specs.Outside.{UnmarkedProgress}
 use Rattle.held_laws.specs.Marks.{has_mark}
@@ -49,8 +50,8 @@ module _ {w w' : List ℕ} {p p' : Progress} {f : List ℕ → Result (List ℕ)
 
 -- ---- what definitions and words ask
 pub bare-unmarked : (w : List ℕ) (p : Progress) → Bare (shown p w) → UnmarkedProgress w p
-bare-unmarked w (Text at n) b = b.unmarked (part at n w) refl
-bare-unmarked w (Refused k) b = tt
+bare-unmarked w (Ok t) b = b.unmarked (part t.at t.n w) refl
+bare-unmarked w (Err k) b = tt
 
 pub unmarked-after : {w w' : List ℕ} {p p' : Progress} {f : List ℕ → Result (List ℕ)} → ((s : List ℕ) → Each unmarked s → Passes unmarked (f s)) → Answered w w' p p' f → Bare (shown p w) → UnmarkedProgress w' p'
 unmarked-after {w' = w'} {p' = p'} keeps a b = bare-unmarked w' p' (bare-after keeps a b)

@@ -64,9 +64,7 @@ fn apply_definitions_outside_text(work: &mut [u8], text: Progress, table: &[u8])
     ensures answered { Answered work.old work.new text result (apply_definitions_outside_text (definitions_or table.now)) }
     ensures untouched { Untouched work.old work.new text result (text_opening ∷ map defined_match (definitions_or table.now)) }
 {
-    let Progress::Text(_, _) = text else {
-        return text;
-    };
+    text?;
     definitions::apply_definitions_outside_text(work, text, table)
 }
 

@@ -1,5 +1,4 @@
 -- What the contracts of `table` and of the crates above it cite.
-pub mod Forms
 pub mod Records
 pub mod Reading
 pub mod Listed

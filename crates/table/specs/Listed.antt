@@ -1,6 +1,7 @@
 -- The records from a place of a table on, up to the first that can't be read: all of them where each can.
 --     listed           those records
 --     listed_at        the same by what stands at the place
+--     Listed           the first of them at a place, if there is one
 --     listed-records   where `records` has them all, they are these
 -- Assumes nothing.
 use Rattle.std.specs.Prelude.{◌≡◌, List, [], ◌∷◌, drop}
@@ -11,16 +12,16 @@ use Prim.Native.Nat.{ℕ, zero, suc, ◌+◌, ◌-◌, ◌≤◌, ◌<◌}
 use Rattle.std.proofs.Math.ListN.{length}
 use Rattle.spec.specs.Table.{Definition, form_of, width, records_in, records}
 use Rattle.spec.specs.Laws.Table.{width_some}
-use Rattle.table.specs.Reading.{Lies, Reads, read_at, first_place, read-end, records_by, records-at, read-places, definition_at}
+use Rattle.table.specs.Reading.{Reading, Lies, Short, Reads, read_at, first_place, read-end, records_by, records-at, read-places, definition_at}
 use Rattle.table.specs.declared.Record.{Record}
-use Rattle.table.specs.declared.Reading.{Reading}
-use Rattle.table.specs.declared.Reading.TheVariants.{Whole, End, Unreadable}
+use Rattle.std.specs.Prelude.{Option as Maybe, Some, None, Ok, Err}
+use Rattle.std.specs.Result.{result_unwrap_or}
 
 -- what is read, before the records of a later place
 abbrev listing : List ℕ → (ℕ → List Definition) → Reading → List Definition
-listing s later (Whole r) = definition_at s r ∷ later r.next
-listing s later End = []
-listing s later Unreadable = []
+listing s later (Ok (Some r)) = definition_at s r ∷ later r.next
+listing s later (Ok None) = []
+listing s later (Err e) = []
 
 -- at most k of them
 unfoldable pub listed_with : ℕ → List ℕ → ℕ → List Definition
@@ -52,24 +53,24 @@ module _ (s : List ℕ) where
     where
       go : (r : Reading) → read_at s at ≡ r → ((next : ℕ) → length s - next ≤ k → length s - next ≤ m → listed_with k s next ≡ listed_with m s next)
           → listing s (λ next. listed_with k s next) r ≡ listing s (λ next. listed_with m s next) r
-      go (Whole r) e later = let p = read-places (form_of s) s at e in let w = width_some (form_of s) in ap (λ ds. definition_at s r ∷ ds) (later r.next (omega arith) (omega arith))
-      go End e later = refl
-      go Unreadable e later = refl
+      go (Ok (Some r)) e later = let p = read-places (form_of s) s at e in let w = width_some (form_of s) in ap (λ ds. definition_at s r ∷ ds) (later r.next (omega arith) (omega arith))
+      go (Ok None) e later = refl
+      go (Err u) e later = refl
 
   pub listed_at : (at : ℕ) → listed s at ≡ listed_by s (read_at s at)
   unfolding listed listed_with
   listed_at at = enough (length s - at) (suc (length s)) at (omega arith) (omega arith) ∙ go (read_at s at)
     where
       go : (r : Reading) → listing s (λ next. listed_with (length s) s next) r ≡ listing s (listed s) r
-      go (Whole r) = ap (λ ds. definition_at s r ∷ ds) (enough (length s) (length s - r.next) r.next (omega arith) (omega arith))
-      go End = refl
-      go Unreadable = refl
+      go (Ok (Some r)) = ap (λ ds. definition_at s r ∷ ds) (enough (length s) (length s - r.next) r.next (omega arith) (omega arith))
+      go (Ok None) = refl
+      go (Err u) = refl
 
   -- the same as `records` has them, with a bound k on how far the table goes on
   listed-before : (k at : ℕ) (ds : List Definition) → length s ≤ at + k → records_in (form_of s) (drop at s) ≡ some ds → listed s at ≡ ds
   listed-before zero at ds h e =
       let end = read-end (form_of s) s at (omega arith) in
-      let none_left : records_by (form_of s) s End ≡ some ds = ap (records_by (form_of s) s) (sym end) ∙ sym (records-at (form_of s) s at) ∙ e in
+      let none_left : records_by (form_of s) s (Ok None) ≡ some ds = ap (records_by (form_of s) s) (sym end) ∙ sym (records-at (form_of s) s at) ∙ e in
       listed_at at ∙ ap (listed_by s) end ∙ cc
   listed-before (suc k) at ds h e = listed_at at ∙ go (read_at s at) refl (sym (records-at (form_of s) s at) ∙ e) (listed-before k)
     where
@@ -80,23 +81,26 @@ module _ (s : List ℕ) where
 
       go : (r : Reading) → read_at s at ≡ r → records_by (form_of s) s r ≡ some ds
           → ((next : ℕ) (es : List Definition) → length s ≤ next + k → records_in (form_of s) (drop next s) ≡ some es → listed s next ≡ es) → listed_by s r ≡ ds
-      go (Whole r) e f later = let p = read-places (form_of s) s at e in let w = width_some (form_of s) in past r (records_in (form_of s) (drop r.next s)) refl f (λ es. later r.next es (omega arith))
-      go End e f later = cc
-      go Unreadable e f later = absurd (none-ne-some ds f)
+      go (Ok (Some r)) e f later = let p = read-places (form_of s) s at e in let w = width_some (form_of s) in past r (records_in (form_of s) (drop r.next s)) refl f (λ es. later r.next es (omega arith))
+      go (Ok None) e f later = cc
+      go (Err u) e f later = absurd (none-ne-some ds f)
 
   pub listed-records : (ds : List Definition) → records s ≡ some ds → listed s (first_place s) ≡ ds
   listed-records ds e = listed-before (length s) (first_place s) ds (omega arith) e
 
 -- ---- what a record at a place tells of the records from there on
-pub heads-at : {s : List ℕ} {at : ℕ} {r : Record} → read_at s at ≡ Whole r → Heads s at r
+pub heads-at : {s : List ℕ} {at : ℕ} {r : Record} → read_at s at ≡ Ok (Some r) → Heads s at r
 heads-at {s} {at} e =
     let p = read-places (form_of s) s at e in
     let w = width_some (form_of s) in
     record { headed = p.0; behind = omega arith; lies = p.1; first = listed_at s at ∙ ap (listed_by s) e }
 
--- the same by what `record_at` ensures
-pub listed-read : {s : List ℕ} {at : ℕ} {x : Reading} → Reads s at x → listed s at ≡ listed_by s x
-listed-read {s} {at} {x} reads = listed_at s at ∙ ap (listed_by s) (sym reads.read)
+-- ---- what a walk over the records meets at a place: a record, or nothing where none is left that can be read
+abbrev pub Listed : List ℕ → ℕ → Maybe Record → Type 0
+Listed s at (Some r) = Heads s at r × Short r
+Listed s at None = listed s at ≡ []
 
-pub heads : {s : List ℕ} {at : ℕ} {x : Reading} {r : Record} → Reads s at x → x ≡ Whole r → Heads s at r
-heads reads e = heads-at (sym reads.read ∙ e)
+pub listed-read : {s : List ℕ} {at : ℕ} {x : Reading} → Reads s at x → Listed s at (result_unwrap_or x None)
+listed-read {s} {at} {x = Ok (Some r)} reads = (heads-at (sym reads.read), reads.stands.1)
+listed-read {s} {at} {x = Ok None} reads = listed_at s at ∙ ap (listed_by s) (sym reads.read)
+listed-read {s} {at} {x = Err e} reads = listed_at s at ∙ ap (listed_by s) (sym reads.read)

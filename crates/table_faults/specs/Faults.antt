@@ -2,17 +2,15 @@
 --     overfull         a record can't be read, or with those counted before there are too many
 --     faulty_first      a record has a fault of its own, or the name of one of those behind it
 -- Assumes nothing.
-use Rattle.std.specs.Prelude.{◌≡◌, refl, Bool, true, false, not, cond, ◌&&◌, ◌||◌, List, ◌∷◌, ℕ, suc, ◌+◌, ◌≤◌, ◌<◌, ltb, length, get_or, drop}
+use Rattle.std.specs.Prelude.{◌≡◌, refl, Bool, true, false, cond, ◌||◌, List, ◌∷◌, ℕ, suc, ◌+◌, ◌≤◌, ◌<◌, ltb, length, drop}
 use Rattle.std.proofs.Common.{ap, ap₂, ◌∙◌, zero-add, arith, lt-ltb, le-ltb}
 use Rattle.std.proofs.Math.Option.{Option, none, some, map}
-use Rattle.spec.specs.Symbols.{letter, alnum, all}
-use Rattle.spec.specs.Laws.Symbols.{head-drop}
 use Rattle.spec.specs.Table.{Definition, form_of, most_bytes, most_records, records_in, records, faulty_name, faulty_latex, named, faulty, whole, definitions}
-use Rattle.table.specs.Reading.{read_at, first_place, records_by, records-at, definition_at}
+use Rattle.table.specs.Reading.{unreadable, read_at, first_place, records_by, records-at, definition_at}
 use Rattle.table.specs.Listed.{listed, listed-records}
 use Rattle.table.specs.Sound.{refused}
 use Rattle.table.specs.declared.Record.{Record}
-use Rattle.table.specs.declared.Reading.TheVariants.{Whole, End, Unreadable}
+use Rattle.std.specs.Prelude.{Some, None, Ok}
 
 abbrev pub overfull : ℕ → Option (List Definition) → Bool
 overfull c none = true
@@ -21,26 +19,19 @@ overfull c (some ds) = ltb most_records (c + length ds)
 abbrev pub faulty_first : Definition → List Definition → Bool
 faulty_first d ds = faulty_name d.name || (faulty_latex d.latex || named d.name ds)
 
--- ---- names
-pub faulty-start : (name : List ℕ) → letter (get_or name 0 0) ≡ false → faulty_name name ≡ true
-faulty-start name e = ap (λ t. not (t && all alnum name)) (ap letter (head-drop name 0) ∙ e)
-
-pub faulty-within : (name : List ℕ) → letter (get_or name 0 0) ≡ true → faulty_name name ≡ not (all alnum name)
-faulty-within name e = ap (λ t. not (t && all alnum name)) (ap letter (head-drop name 0) ∙ e)
-
 -- ---- how many records there are
 module _ (s : List ℕ) (at c : ℕ) where
-  pub overfull-whole : {r : Record} → read_at s at ≡ Whole r → overfull c (records_in (form_of s) (drop at s)) ≡ overfull (c + 1) (records_in (form_of s) (drop r.next s))
+  pub overfull-whole : {r : Record} → read_at s at ≡ Ok (Some r) → overfull c (records_in (form_of s) (drop at s)) ≡ overfull (c + 1) (records_in (form_of s) (drop r.next s))
   overfull-whole {r} e = ap (overfull c) (records-at (form_of s) s at ∙ ap (records_by (form_of s) s) e) ∙ go (records_in (form_of s) (drop r.next s))
     where
       go : (o : Option (List Definition)) → overfull c (map (λ (ds : List Definition). definition_at s r ∷ ds) o) ≡ overfull (c + 1) o
       go none = refl
       go (some ds) = let n : c + suc (length ds) ≡ c + 1 + length ds = omega arith in ap (ltb most_records) n
 
-  pub overfull-end : c ≤ most_records → read_at s at ≡ End → overfull c (records_in (form_of s) (drop at s)) ≡ false
+  pub overfull-end : c ≤ most_records → read_at s at ≡ Ok None → overfull c (records_in (form_of s) (drop at s)) ≡ false
   overfull-end h e = ap (overfull c) (records-at (form_of s) s at ∙ ap (records_by (form_of s) s) e) ∙ le-ltb most_records (c + 0) (omega arith)
 
-  pub overfull-unreadable : read_at s at ≡ Unreadable → overfull c (records_in (form_of s) (drop at s)) ≡ true
+  pub overfull-unreadable : read_at s at ≡ unreadable → overfull c (records_in (form_of s) (drop at s)) ≡ true
   overfull-unreadable e = ap (overfull c) (records-at (form_of s) s at ∙ ap (records_by (form_of s) s) e)
 
   pub overfull-many : most_records < c → overfull c (records_in (form_of s) (drop at s)) ≡ true
@@ -60,15 +51,8 @@ faulty-cons d ds = go (faulty_name d.name) (faulty_latex d.latex)
     go false true = refl
     go false false = refl
 
-module _ (d : Definition) (ds : List Definition) where
-  pub first-by-name : faulty_name d.name ≡ true → faulty_first d ds ≡ true
-  first-by-name e = ap (λ t. t || (faulty_latex d.latex || named d.name ds)) e
-
-  pub first-by-latex : faulty_name d.name ≡ false → faulty_latex d.latex ≡ true → faulty_first d ds ≡ true
-  first-by-latex e f = ap₂ (λ t u. t || (u || named d.name ds)) e f
-
-  pub first-by-others : faulty_name d.name ≡ false → faulty_latex d.latex ≡ false → faulty_first d ds ≡ named d.name ds
-  first-by-others e f = ap₂ (λ t u. t || (u || named d.name ds)) e f
+pub first-by-others : (d : Definition) (ds : List Definition) → faulty_name d.name ≡ false → faulty_latex d.latex ≡ false → faulty_first d ds ≡ named d.name ds
+first-by-others d ds e f = ap₂ (λ t u. t || (u || named d.name ds)) e f
 
 -- ---- all of the table
 abbrev checked : List ℕ → Bool → Option (List Definition)

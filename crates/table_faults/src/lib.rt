@@ -2,13 +2,13 @@
 #![tactic(auto)]
 
 ghost use Rattle.std.specs.Prelude.{◌≡◌};
-ghost use Rattle.spec.specs.Table.{records, definitions, faulty_name, faulty_latex, named, faulty};
+ghost use Rattle.spec.specs.Table.{records, definitions, faulty_name, faulty_latex, faulty};
 ghost use Rattle.table.specs.Reading.{Lies, first_place, definition_at};
 ghost use Rattle.table.specs.Listed.{listed};
 ghost use Rattle.table.specs.Sound.{refused};
 ghost use Rattle.table_faults.specs.Faults.{overfull, faulty_first};
 
-use table::{Reading, Record, first_place, record_at};
+use table::{Record, first_place, listed_at, record_at};
 use table_names::find_named;
 use text_symbols::Class;
 
@@ -21,13 +21,7 @@ pub const MOST_RECORDS: usize = 64;
 pub fn is_faulty(table: &[u8]) -> bool
     ensures { result ≡ refused (definitions table.now) }
 {
-    if MOST_BYTES < table.len() {
-        return true;
-    }
-    if is_overfull(table) {
-        return true;
-    }
-    has_faulty_record(table)
+    MOST_BYTES < table.len() || is_overfull(table) || has_faulty_record(table)
 }
 
 // Whether a record can't be read, or there are too many.
@@ -35,19 +29,11 @@ fn is_overfull(table: &[u8]) -> bool
     ensures { result ≡ overfull 0 (records table.now) }
 {
     let mut at = first_place(table);
-    let mut count = 0;
-    while count <= MOST_RECORDS {
+    for _count in 0..=MOST_RECORDS {
         match record_at(table, at) {
-            Reading::Whole(found) => {
-                at = found.next;
-                count += 1;
-            }
-            Reading::End => {
-                return false;
-            }
-            Reading::Unreadable => {
-                return true;
-            }
+            Ok(Some(found)) => at = found.next,
+            Ok(None) => return false,
+            Err(_) => return true,
         }
     }
     true
@@ -58,57 +44,38 @@ fn has_faulty_record(table: &[u8]) -> bool
     ensures { result ≡ faulty (listed table.now (first_place table.now)) }
 {
     let mut at = first_place(table);
-    loop {
-        let Reading::Whole(found) = record_at(table, at) else {
-            return false;
-        };
+    // The step varies: a record says where the next one begins.
+    while let Some(found) = listed_at(table, at) {
         if is_faulty_record(table, found) {
             return true;
         }
         at = found.next;
     }
+    false
 }
 
 fn is_faulty_record(table: &[u8], found: Record) -> bool
     requires { Lies table.now found }
     ensures { result ≡ faulty_first (definition_at table.now found) (listed table.now found.next) }
 {
-    let start = found.name;
-    let middle = found.latex;
-    let end = found.next;
-    if is_faulty_name(&table[start..middle]) {
-        return true;
-    }
-    if is_faulty_latex(&table[middle..end]) {
-        return true;
-    }
-    is_named(table, end, &table[start..middle])
+    let name = found.name_in(table);
+    is_faulty_name(name)
+        || is_faulty_latex(found.latex_in(table))
+        || find_named(table, found.next, name).is_some()
 }
 
 // Whether the name is empty, not of letters and digits, or not begun by a letter.
 fn is_faulty_name(name: &[u8]) -> bool
     ensures { result ≡ faulty_name name.now }
 {
-    if !text_symbols::is_letter(text_search::symbol(name, 0)) {
-        return true;
-    }
-    !text_symbols::all_in(name, Class::Alnum)
+    !(text_symbols::is_letter(text_search::symbol(name, 0))
+        && text_symbols::all_in(name, Class::Alnum))
 }
 
-// Whether a byte of the LaTeX is foreign or `$`.
+// Whether a byte of the LaTeX is foreign or `$`. `has_foreign` of `entry_ends` is the like for another class: one function for both would
+// only be `all_in` again.
 fn is_faulty_latex(latex: &[u8]) -> bool
     ensures { result ≡ faulty_latex latex.now }
 {
     !text_symbols::all_in(latex, Class::Latex)
-}
-
-// Whether a record from the place on has the name.
-fn is_named(table: &[u8], from: usize, name: &[u8]) -> bool
-    ensures { result ≡ named name.now (listed table.now from) }
-{
-    match find_named(table, from, name) {
-        Reading::Whole(_) => true,
-        Reading::End => false,
-        Reading::Unreadable => false,
-    }
 }

@@ -3,27 +3,36 @@
 --     FindsNamed       what `find_named` ensures
 --     finds-named      whether there is one
 -- Assumes nothing.
-use Rattle.std.specs.Prelude.{◌≡◌, refl, Bool, true, false, ◌||◌, List, [], ◌∷◌, ℕ, ◌+◌, ◌-◌, length}
-use Rattle.std.proofs.Common.{ap, ap₂, ◌∙◌, arith}
+use Rattle.std.specs.Prelude.{◌≡◌, refl, Bool, true, false, ◌||◌, ◌&&◌, eqb, List, [], ◌∷◌, ℕ, ◌+◌, ◌-◌, length}
+use Rattle.std.proofs.Common.{sym, ap, ap₂, ◌∙◌, arith}
 use Rattle.std.proofs.Math.Option.{Option, none, some}
+use Rattle.std.specs.Cmp.Lexicographic.{pointwise}
 use Rattle.spec.specs.Symbols.{is_some, same}
 use Rattle.spec.specs.Table.{Definition, Form, form_of, width, named}
 use Rattle.spec.specs.WordAt.{WordPart, in_table, latex_place}
 use Rattle.spec.specs.Laws.WordAt.{latex-here, latex-behind}
-use Rattle.table.specs.Reading.{ReadingLies, definition_at, name_at, length-name, length-latex}
+use Rattle.std.specs.Prelude.{Option as Maybe, Some, None, is_some as found_any}
+use Rattle.table.specs.Reading.{Stands, definition_at, name_at, length-name, length-latex}
 use Rattle.table.specs.Listed.{listed, Heads}
 use Rattle.table.specs.declared.Record.{Record}
-use Rattle.table.specs.declared.Reading.{Reading}
-use Rattle.table.specs.declared.Reading.TheVariants.{Whole, End, Unreadable}
 
-abbrev pub latex_part : Reading → Option WordPart
-latex_part (Whole r) = some (in_table r.latex (r.next - r.latex))
-latex_part End = none
-latex_part Unreadable = none
+abbrev pub latex_part : Maybe Record → Option WordPart
+latex_part (Some r) = some (in_table r.latex (r.next - r.latex))
+latex_part None = none
 
-pub record FindsNamed (s : List ℕ) (from : ℕ) (name : List ℕ) (r : Reading) : Type 0 where
+pub record FindsNamed (s : List ℕ) (from : ℕ) (name : List ℕ) (r : Maybe Record) : Type 0 where
   pub part : latex_part r ≡ latex_place (form_of s) name from (listed s from)
-  pub stands : ReadingLies s r
+  pub stands : Stands s r
+
+-- the slices' own test of names is that of the definitions
+names-equal : (a b : List ℕ) → pointwise eqb a b ≡ same a b
+names-equal [] [] = refl
+names-equal [] (y ∷ t) = refl
+names-equal (x ∷ s) [] = refl
+names-equal (x ∷ s) (y ∷ t) = ap (λ u. eqb x y && u) (names-equal s t)
+
+pub name-tested : (name other : List ℕ) {at : List ℕ} {b t : Bool} → b ≡ pointwise eqb name other → other ≡ at → b ≡ t → same name at ≡ t
+name-tested name other tested e f = ap (same name) (sym e) ∙ sym (names-equal name other) ∙ sym tested ∙ f
 
 -- ---- one step: the record at a place has the name, or those behind it are asked
 module _ {s : List ℕ} {at : ℕ} {r : Record} (h : Heads s at r) (name : List ℕ) where
@@ -33,7 +42,7 @@ module _ {s : List ℕ} {at : ℕ} {r : Record} (h : Heads s at r) (name : List 
   next-at : at + width (form_of s) + length (name_at s r) + length (definition_at s r).latex ≡ r.next
   next-at = let a = latex-at in let l = h.lies in let n = length-latex l in omega arith
 
-  pub named_here : same name (name_at s r) ≡ true → latex_place (form_of s) name at (listed s at) ≡ latex_part (Whole r)
+  pub named_here : same name (name_at s r) ≡ true → latex_place (form_of s) name at (listed s at) ≡ latex_part (Some r)
   named_here e =
       ap (latex_place (form_of s) name at) h.first
       ∙ latex-here (form_of s) name at (definition_at s r) (listed s r.next) e
@@ -61,5 +70,9 @@ named-found form name at (d ∷ ds) = go (same name d.name) (named-found form na
     go true e = refl
     go false e = e
 
-pub finds-named : {s name : List ℕ} {from : ℕ} {r : Reading} → FindsNamed s from name r → is_some (latex_part r) ≡ named name (listed s from)
-finds-named {s} {name} {from} f = ap is_some f.part ∙ named-found (form_of s) name from (listed s from)
+found-part : (r : Maybe Record) → found_any r ≡ is_some (latex_part r)
+found-part (Some r) = refl
+found-part None = refl
+
+pub finds-named : {s name : List ℕ} {from : ℕ} {r : Maybe Record} → FindsNamed s from name r → found_any r ≡ named name (listed s from)
+finds-named {s} {name} {from} {r} f = found-part r ∙ ap is_some f.part ∙ named-found (form_of s) name from (listed s from)

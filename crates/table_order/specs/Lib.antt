@@ -1,3 +1,2 @@
 -- What the contracts of `table_order` cite.
-pub mod Names
 pub mod Order

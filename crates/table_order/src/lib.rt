@@ -3,100 +3,60 @@
 #![tactic(auto)]
 
 ghost use Rattle.std.specs.Prelude.{◌≡◌};
-ghost use Rattle.spec.specs.Table.{lower, precedes as precedes_name};
-ghost use Rattle.table.specs.Reading.{Lies, ReadingLies, name_at};
-ghost use Rattle.table.specs.declared.Reading.TheVariants.{Whole};
+ghost use Rattle.spec.specs.Table.{precedes as precedes_name};
+ghost use Rattle.table.specs.Reading.{Lies, Stands, name_at};
 ghost use Rattle.table_order.specs.Order.{Reached, is_left, Sooner, Nexts};
 
-use table::{Reading, Record, first_place, record_at};
-
-// How far the order has come: the record that came last, if one did.
-#[derive(Clone, Copy)]
-pub enum Cursor {
-    Start,
-    Behind(Record),
-}
-
-// Does the first name come before the second in byte order?
-fn is_lower(a: &[u8], b: &[u8]) -> bool
-    ensures { result ≡ lower a.now b.now }
-{
-    let mut i = 0;
-    while i < b.len() {
-        if a.len() <= i {
-            return true;
-        }
-        let x = a[i];
-        let y = b[i];
-        if x < y {
-            return true;
-        }
-        if y < x {
-            return false;
-        }
-        i += 1;
-    }
-    false
-}
+use table::{Record, first_place, listed_at};
 
 // Is the first of two records applied before the second?
 fn precedes(table: &[u8], a: Record, b: Record) -> bool
     requires { Lies table.now a × Lies table.now b }
     ensures { result ≡ precedes_name (name_at table.now a) (name_at table.now b) }
 {
-    let start = a.name;
-    let end = a.latex;
-    let other_start = b.name;
-    let other_end = b.latex;
-    let length = end - start;
-    let other_length = other_end - other_start;
-    if other_length < length {
-        return true;
-    }
-    if length < other_length {
-        return false;
-    }
-    is_lower(&table[start..end], &table[other_start..other_end])
+    let first = a.name_in(table);
+    let second = b.name_in(table);
+    second.len() < first.len() || second.len() == first.len() && first < second
 }
 
-fn is_left(table: &[u8], cursor: Cursor, found: Record) -> bool
-    requires { Reached table.now cursor × Lies table.now found }
-    ensures { result ≡ is_left table.now cursor (name_at table.now found) }
+// Does a record come behind the one that came last?
+fn is_left(table: &[u8], last: Option<Record>, found: Record) -> bool
+    requires { Reached table.now last × Lies table.now found }
+    ensures { result ≡ is_left table.now last (name_at table.now found) }
 {
-    let Cursor::Behind(last) = cursor else {
+    let Some(last) = last else {
         return true;
     };
     precedes(table, last, found)
 }
 
 // The sooner of two records, of which the first may be missing.
-fn sooner(table: &[u8], best: Reading, found: Record) -> Reading
-    requires { ReadingLies table.now best × ReadingLies table.now (Whole found) }
+fn sooner(table: &[u8], best: Option<Record>, found: Record) -> Record
+    requires { Stands table.now best × Stands table.now (Some found) }
     ensures { Sooner table.now best found result }
 {
-    let Reading::Whole(first) = best else {
-        return Reading::Whole(found);
+    let Some(first) = best else {
+        return found;
     };
     if precedes(table, first, found) {
-        return best;
+        return first;
     }
-    Reading::Whole(found)
+    found
 }
 
-// The next record of the order.
-pub fn next(table: &[u8], cursor: Cursor) -> Reading
-    requires { Reached table.now cursor }
-    ensures { Nexts table.now cursor result }
+// The next record of the order, behind the one that came last, if one did.
+pub fn next(table: &[u8], last: Option<Record>) -> Option<Record>
+    requires { Reached table.now last }
+    ensures { Nexts table.now last result }
 {
-    let mut best = Reading::End;
+    let mut best = None;
     let mut at = first_place(table);
-    loop {
-        let Reading::Whole(found) = record_at(table, at) else {
-            return best;
-        };
-        if is_left(table, cursor, found) {
-            best = sooner(table, best, found);
+    // The step varies: a record says where the next one begins.
+    while let Some(found) = listed_at(table, at) {
+        if is_left(table, last, found) {
+            best = Some(sooner(table, best, found));
         }
         at = found.next;
     }
+    best
 }

@@ -3,19 +3,20 @@
 use Rattle.std.specs.Prelude.{◌≡◌, refl, List, [], ◌++◌, ℕ, ◌+◌, ◌-◌, ◌<◌, get_or}
 use Rattle.std.proofs.Common.{sym, ap, ◌∙◌, subst, append_assoc, append-nil}
 use Rattle.text_symbols.specs.Parts.{part, get_d_part, whole_part}
+use Rattle.text.specs.declared.writer.Writer.{Writer}
 use Rattle.text.specs.Writer.{Appended, Apart, appended-none, appended-more, appended-part}
 
--- it began with the buffer w₀ and with `count₀` symbols written
-pub record Filling (w₀ w : List ℕ) (to cap count₀ count : ℕ) (rest whole : List ℕ) : Type 0 where
+-- it began with the buffer w₀ and the writer o₀
+pub record Filling (w₀ w : List ℕ) (o₀ o : Writer) (rest whole : List ℕ) : Type 0 where
   pub out : List ℕ
-  pub appended : Appended w₀ w to cap count₀ count out
+  pub appended : Appended w₀ w o₀ o out
   pub same-as-whole : out ++ rest ≡ whole
 
-pub filling-none : (w : List ℕ) (to cap count : ℕ) (whole : List ℕ) → Filling w w to cap count count whole whole
-filling-none w to cap count whole = record { out = []; appended = appended-none w to cap count; same-as-whole = refl }
+pub filling-none : (w : List ℕ) (o : Writer) (whole : List ℕ) → Filling w w o o whole whole
+filling-none w o whole = record { out = []; appended = appended-none w o; same-as-whole = refl }
 
-module _ {w₀ w : List ℕ} {to cap count₀ count : ℕ} {rest whole : List ℕ} (f : Filling w₀ w to cap count₀ count rest whole) where
-  pub filling-more : {w' : List ℕ} {count' : ℕ} {bs rest' : List ℕ} → Appended w w' to cap count count' bs → rest ≡ bs ++ rest' → Filling w₀ w' to cap count₀ count' rest' whole
+module _ {w₀ w : List ℕ} {o₀ o : Writer} {rest whole : List ℕ} (f : Filling w₀ w o₀ o rest whole) where
+  pub filling-more : {w' : List ℕ} {o' : Writer} {bs rest' : List ℕ} → Appended w w' o o' bs → rest ≡ bs ++ rest' → Filling w₀ w' o₀ o' rest' whole
   filling-more {bs = bs} {rest'} a e =
       record {
         out = f.out ++ bs;
@@ -23,11 +24,11 @@ module _ {w₀ w : List ℕ} {to cap count₀ count : ℕ} {rest whole : List �
         same-as-whole = append_assoc f.out bs rest' ∙ ap (λ r. f.out ++ r) (sym e) ∙ f.same-as-whole;
       }
 
-  pub filling-all : rest ≡ [] → Appended w₀ w to cap count₀ count whole
-  filling-all e = subst (Appended w₀ w to cap count₀ count) (sym (append-nil f.out) ∙ ap (λ r. f.out ++ r) (sym e) ∙ f.same-as-whole) f.appended
+  pub filling-all : rest ≡ [] → Appended w₀ w o₀ o whole
+  filling-all e = subst (Appended w₀ w o₀ o) (sym (append-nil f.out) ∙ ap (λ r. f.out ++ r) (sym e) ∙ f.same-as-whole) f.appended
 
   -- the source is read as it was: all of it, and a symbol
-  module _ (from n : ℕ) (apart : Apart from n to cap) where
+  module _ (from n : ℕ) (apart : Apart from n o₀) where
     pub filling-source : part from (from + n - from) w ≡ part from n w₀
     filling-source = whole_part from n w ∙ appended-part f.appended from n apart
 

@@ -5,15 +5,17 @@
 --     Answered    what a stage ensures: an equation with its definition. `Staged`: and what lies beyond the two regions is as it was
 -- Assumes nothing.
 use Rattle.std.specs.Prelude.{◌≡◌, refl, cond, List, ◌⊎◌, ℕ, ◌+◌, ◌-◌, ◌≤◌, ◌<◌, ltb, length, drop}
-use Rattle.std.proofs.Common.{sym, ap, ◌∙◌, subst, inl, inr, ⊎_elim, arith, lt-ltb, le-ltb}
+use Rattle.std.proofs.Common.{sym, ap, ap₂, ◌∙◌, subst, inl, inr, ⊎_elim, arith, lt-ltb, le-ltb}
 use Rattle.std.proofs.Math.Decide.{dec_lt}
 use Rattle.spec.specs.Pipeline.{least_work}
 use Rattle.text_search.specs.Half.{half_work}
 use Rattle.spec.specs.Result.{Result, passed, refused, ◌then◌, most_symbols, grown, stage}
 use Rattle.text_symbols.specs.Parts.{part, length_part}
-use Rattle.text.specs.Writer.{Regions}
+use Rattle.text.specs.declared.writer.Writer.{Writer}
+use Rattle.text.specs.Writer.{Regions, started}
 use Rattle.text.specs.Written.{Written, wrote-text, wrote-beyond}
 use Rattle.text.specs.declared.Refusal.{Refusal}
+use Rattle.text.specs.declared.TextPlace.{TextPlace}
 use Rattle.text.specs.declared.Refusal.TheVariants.{
   ForeignByte,
   LongFormula,
@@ -28,8 +30,7 @@ use Rattle.text.specs.declared.Refusal.TheVariants.{
   TallField,
   NoWord,
 }
-use Rattle.text.specs.declared.Progress.{Progress}
-use Rattle.text.specs.declared.Progress.TheVariants.{Text, Refused}
+use Rattle.std.specs.Prelude.{Result as Either, Ok, Err}
 
 abbrev pub number : Refusal → ℕ
 number ForeignByte = 1
@@ -59,29 +60,36 @@ number-between ShortOutput = (omega arith, omega arith)
 number-between TallField = (omega arith, omega arith)
 number-between NoWord = (omega arith, omega arith)
 
+-- the code's own `Result`, which is another type than that of the definitions
+abbrev pub Progress : Type 0
+Progress = Either TextPlace Refusal
+
+abbrev pub Text : ℕ → ℕ → Progress
+Text at n = Ok (record { at = at; n = n })
+
 abbrev pub shown : Progress → List ℕ → Result (List ℕ)
-shown (Text at n) w = passed (part at n w)
-shown (Refused k) w = refused (number k)
+shown (Ok t) w = passed (part t.at t.n w)
+shown (Err k) w = refused (number k)
 
 -- a text lies in the first or the second region
 abbrev pub Placed : Progress → Type 0
-Placed (Text at n) = ((at ≡ 0) ⊎ (at ≡ most_symbols)) × (n ≤ most_symbols)
-Placed (Refused k) = Unit {0}
+Placed (Ok t) = ((t.at ≡ 0) ⊎ (t.at ≡ most_symbols)) × (t.n ≤ most_symbols)
+Placed (Err k) = Unit {0}
 
--- a finished text at `to`, judged by its length: number 5
-abbrev pub judged : ℕ → ℕ → Progress
-judged to count = cond (ltb most_symbols count) (Refused Overgrown) (Text to count)
+-- a finished text, judged by its length: number 5
+abbrev pub judged : Writer → Progress
+judged o = cond (ltb most_symbols o.count) (Err Overgrown) (Text o.to o.count)
 
 pub judged-text :
-    (w t : List ℕ) (to : ℕ) {count : ℕ} → count ≡ length t → (to ≡ 0) ⊎ (to ≡ most_symbols) → (count ≤ most_symbols → part to count w ≡ t)
-    → (shown (judged to count) w ≡ grown t t) × Placed (judged to count)
-judged-text w t to {count} counted region held = go (dec_lt most_symbols count)
+    (w t : List ℕ) (o : Writer) → o.count ≡ length t → (o.to ≡ 0) ⊎ (o.to ≡ most_symbols) → (o.count ≤ most_symbols → part o.to o.count w ≡ t)
+    → (shown (judged o) w ≡ grown t t) × Placed (judged o)
+judged-text w t o counted region held = go (dec_lt most_symbols o.count)
   where
-    go : Dec (most_symbols < count) → (shown (judged to count) w ≡ grown t t) × Placed (judged to count)
-    go (yes h) = rw (lt-ltb most_symbols count h, lt-ltb most_symbols (length t) (omega arith)) (refl, tt)
+    go : Dec (most_symbols < o.count) → (shown (judged o) w ≡ grown t t) × Placed (judged o)
+    go (yes h) = rw (lt-ltb most_symbols o.count h, lt-ltb most_symbols (length t) (omega arith)) (refl, tt)
     go (no h) =
-        let l : count ≤ most_symbols = omega arith in
-        rw (le-ltb most_symbols count l, le-ltb most_symbols (length t) (omega arith)) (ap passed (held l), (region, l))
+        let l : o.count ≤ most_symbols = omega arith in
+        rw (le-ltb most_symbols o.count l, le-ltb most_symbols (length t) (omega arith)) (ap passed (held l), (region, l))
 
 pub record Ready (w : List ℕ) (p : Progress) : Type 0 where
   pub long : least_work ≤ length w
@@ -140,7 +148,7 @@ staged-by {w} {p = p} {f = f} g same a =
 
 -- ---- a stage that leaves buffer and progress as they are
 -- because the text has been refused before
-pub staged-refused : {w : List ℕ} {p : Progress} (f : List ℕ → Result (List ℕ)) (k : Refusal) → p ≡ Refused k → Staged w w p p f
+pub staged-refused : {w : List ℕ} {p : Progress} (f : List ℕ → Result (List ℕ)) (k : Refusal) → p ≡ Err k → Staged w w p p f
 staged-refused {w} {p} f k e =
     record {
       answered = record { answer = ap (λ q. shown q w) e ∙ ap (λ q. shown q w then f) (sym e); long = refl; placed = subst Placed (sym e) tt };
@@ -190,7 +198,7 @@ module _ {w : List ℕ} {p : Progress} {from n : ℕ} (ready : Ready w p) (e : p
       }
 
   -- ---- a stage that writes its text to the other region
-  pub placed-regions : Regions w from n (most_symbols - from) most_symbols 0
+  pub placed-regions : Regions w from n (started (most_symbols - from))
   placed-regions =
       let long = ready.long in let short = placed-text.1 in
       ⊎_elim (λ z. record { source = omega arith; region = omega arith; apart = inl (omega arith); short = omega arith; small = omega arith })
@@ -198,13 +206,13 @@ module _ {w : List ℕ} {p : Progress} {from n : ℕ} (ready : Ready w p) (e : p
       placed-text.0
 
   pub staged-written :
-      {w' : List ℕ} {count : ℕ} {p' : Progress} {t : List ℕ} (f : List ℕ → List ℕ)
-      → Written w w' (most_symbols - from) most_symbols count t → f (part from n w) ≡ t → p' ≡ judged (most_symbols - from) count
+      {w' : List ℕ} {o : Writer} {p' : Progress} {t : List ℕ} (f : List ℕ → List ℕ)
+      → Written w w' (started (most_symbols - from)) o t → f (part from n w) ≡ t → p' ≡ judged o
       → Staged w w' p p' (stage f)
-  staged-written {w'} {count} {t = t} f written same j =
-      let fits = placed-regions.region in let c = written.counted in
-      let other : ((most_symbols - from) ≡ 0) ⊎ ((most_symbols - from) ≡ most_symbols) = ⊎_elim (λ z. inr (omega arith)) (λ z. inl (omega arith)) placed-text.0 in
-      let right = judged-text w' t (most_symbols - from) c other (λ l. ap (λ m. part (most_symbols - from) m w') c ∙ wrote-text written.wrote fits (omega arith)) in
+  staged-written {w'} {o} {t = t} f written same j =
+      let fits = placed-regions.region in let c = written.counted in let at = written.same-place in
+      let other : (o.to ≡ 0) ⊎ (o.to ≡ most_symbols) = ⊎_elim (λ z. inr (omega arith)) (λ z. inl (omega arith)) placed-text.0 in
+      let right = judged-text w' t o c other (λ l. ap₂ (λ k m. part k m w') at c ∙ wrote-text written.wrote fits (omega arith)) in
       record {
         answered = record {
           answer = ap (λ q. shown q w') j ∙ right.0 ∙ sym (ap (λ q. shown q w then stage f) e ∙ ap (λ s. grown s s) same);

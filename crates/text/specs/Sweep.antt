@@ -1,4 +1,4 @@
--- The invariant of a loop that sweeps the n symbols at `from` and writes at `to`.
+-- The invariant of a loop that sweeps the n symbols at `from`.
 --     Sweeping        it stands at place i
 --     sweeping-none   it begins; `sweeping-more`: one turn; `sweeping-gap`: what stands before a pattern; `sweeping-all`: it is done
 -- Assumes nothing.
@@ -11,35 +11,36 @@ use Rattle.spec.specs.Sweep.{Turn, Rule, kept, sweep}
 use Rattle.spec.specs.Laws.Symbols.{drop-step}
 use Rattle.spec.specs.Laws.Sweep.{Waits, swept, swept-turn, swept-copied, swept-end}
 use Rattle.text_symbols.specs.Parts.{part, length_part, get_d_part, rest_part, whole_part, sub_part}
-use Rattle.text.specs.Writer.{most_written, Room, Appended, Apart, Regions, apart-part, appended-none, appended-more, appended-long, appended-part}
+use Rattle.text.specs.declared.writer.Writer.{Writer}
+use Rattle.text.specs.Writer.{most_written, Room, Appended, Apart, Regions, apart-part, apart-kept, appended-none, appended-more, appended-long, appended-part}
 
--- it began with the buffer w₀ and with `count₀` symbols written. A turn writes at most `most_written` symbols for each that it takes, so the count stays small
-pub record Sweeping (rule : Rule) (w₀ w : List ℕ) (from n to cap count₀ count i : ℕ) : Type 0 where
-  pub regions : Regions w₀ from n to cap count₀
+-- it began with the buffer w₀ and the writer o₀. A turn writes at most `most_written` symbols for each that it takes, so the count stays small
+pub record Sweeping (rule : Rule) (w₀ w : List ℕ) (from n : ℕ) (o₀ o : Writer) (i : ℕ) : Type 0 where
+  pub regions : Regions w₀ from n o₀
   pub out : List ℕ
-  pub appended : Appended w₀ w to cap count₀ count out
+  pub appended : Appended w₀ w o₀ o out
   pub long : length w ≡ length w₀
   pub same-as-whole : out ++ swept rule (part from n w₀) i ≡ sweep rule 0 0 (part from n w₀)
-  pub bounded : count ≤ count₀ + most_written * i
+  pub bounded : o.count ≤ o₀.count + most_written * i
 
-pub sweeping-none : (rule : Rule) {w : List ℕ} {from n to cap count : ℕ} → Regions w from n to cap count → Sweeping rule w w from n to cap count count 0
+pub sweeping-none : (rule : Rule) {w : List ℕ} {from n : ℕ} {o : Writer} → Regions w from n o → Sweeping rule w w from n o o 0
 unfolding swept
-sweeping-none rule {w} {to = to} {cap} {count} regions = record { regions = regions; out = []; appended = appended-none w to cap count; long = refl; same-as-whole = refl; bounded = omega arith }
+sweeping-none rule {w} {o = o} regions = record { regions = regions; out = []; appended = appended-none w o; long = refl; same-as-whole = refl; bounded = omega arith }
 
 -- the rest of the text, as the code looks at it
 abbrev pub rest_from : ℕ → ℕ → ℕ → List ℕ → List ℕ
 rest_from from n i w = part (from + i) (from + n - (from + i)) w
 
-module _ {rule : Rule} {w₀ w : List ℕ} {from n to cap count₀ count i : ℕ} (sweeping : Sweeping rule w₀ w from n to cap count₀ count i) where
-  regions : Regions w₀ from n to cap count₀
+module _ {rule : Rule} {w₀ w : List ℕ} {from n : ℕ} {o₀ o : Writer} {i : ℕ} (sweeping : Sweeping rule w₀ w from n o₀ o i) where
+  regions : Regions w₀ from n o₀
   regions = sweeping.regions
 
-  pub sweeping-all : n ≤ i → Appended w₀ w to cap count₀ count (sweep rule 0 0 (part from n w₀))
+  pub sweeping-all : n ≤ i → Appended w₀ w o₀ o (sweep rule 0 0 (part from n w₀))
   sweeping-all h =
       let l = length_part from n w₀ regions.source in
       let short : length (part from n w₀) ≤ i = omega arith in
       let e = sym (append-nil sweeping.out) ∙ ap (λ s. sweeping.out ++ s) (sym (swept-end rule (part from n w₀) i short)) ∙ sweeping.same-as-whole in
-      subst (λ out. Appended w₀ w to cap count₀ count out) e sweeping.appended
+      subst (λ out. Appended w₀ w o₀ o out) e sweeping.appended
 
   -- what is read of the text, in a turn: all of it, its rest, and m symbols of it
   pub source-read : part from (from + n - from) w ≡ part from n w₀
@@ -51,8 +52,8 @@ module _ {rule : Rule} {w₀ w : List ℕ} {from n to cap count₀ count i : ℕ
   pub symbols-read : (j m : ℕ) → j + m ≤ n → part (from + j) m w ≡ take m (drop j (part from n w₀))
   symbols-read j m h = sub_part from n j m w h ∙ ap (λ s. take m (drop j s)) (appended-part sweeping.appended from n regions.apart)
 
-  pub symbols-apart : (j m : ℕ) → j + m ≤ n → Apart (from + j) m to cap
-  symbols-apart j m h = apart-part from n to cap j m regions.apart h
+  pub symbols-apart : (j m : ℕ) → j + m ≤ n → Apart (from + j) m o
+  symbols-apart j m h = apart-part from n o j m (apart-kept from n sweeping.appended regions.apart) h
 
   -- the symbols before the pattern that the rule waits for
   module _ {pattern : List ℕ} {k : ℕ} (gap : Gap pattern (rest_from from n i w) k) (within : i ≤ n) where
@@ -62,13 +63,14 @@ module _ {rule : Rule} {w₀ w : List ℕ} {from n to cap count₀ count i : ℕ
         omega arith
 
     -- what `copy` asks
-    pub gap-room : Room w to cap count k × ((from + i + k ≤ length w) × Apart (from + i) k to cap)
+    pub gap-room : Room w o k × ((from + i + k ≤ length w) × Apart (from + i) k o)
     gap-room =
-        let h = gap_within in let l = sweeping.long in let r = regions.region in let s = regions.small in let c = sweeping.bounded in let o = regions.source in
+        let h = gap_within in let l = sweeping.long in let r = regions.region in let s = regions.small in let c = sweeping.bounded in let src = regions.source in
+        let p = sweeping.appended.same-place in let q = sweeping.appended.same-cap in
         (record { region = omega arith; small = omega arith }, (omega arith, symbols-apart i k gap_within))
 
-    pub sweeping-gap : {w' : List ℕ} {count' : ℕ} → Waits pattern rule → Appended w w' to cap count count' (part (from + i) k w) → Sweeping rule w₀ w' from n to cap count₀ count' (i + k)
-    sweeping-gap {w'} {count'} waits a =
+    pub sweeping-gap : {w' : List ℕ} {o' : Writer} → Waits pattern rule → Appended w w' o o' (part (from + i) k w) → Sweeping rule w₀ w' from n o₀ o' (i + k)
+    sweeping-gap {w'} {o'} waits a =
         let s = part from n w₀ in
         let l = length_part from n w₀ regions.source in
         let h = gap_within in let c = sweeping.bounded in
@@ -88,20 +90,21 @@ module _ {rule : Rule} {w₀ w : List ℕ} {from n to cap count₀ count i : ℕ
         free j less = ap (starts pattern) (sym (ap (drop j) rest_read ∙ drop-drop j i (part from n w₀))) ∙ gap.free j less
 
   module _ (more : i < n) where
-    pub turn-room : (m : ℕ) → m ≤ least_work → Room w to cap count m
+    pub turn-room : (m : ℕ) → m ≤ least_work → Room w o m
     turn-room m h =
         let l = sweeping.long in let r = regions.region in let s = regions.small in let c = sweeping.bounded in
+        let p = sweeping.appended.same-place in let q = sweeping.appended.same-cap in
         record { region = omega arith; small = omega arith }
 
     -- what `copy_one` asks, to copy the symbol at place i
-    pub one-room : Room w to cap count 1 × (from + i < length w)
+    pub one-room : Room w o 1 × (from + i < length w)
     one-room = let l = sweeping.long in let s = regions.source in (turn-room 1 (omega arith), omega arith)
 
     -- the turn at place i has been written
     pub sweeping-more :
-        {w' : List ℕ} {count' : ℕ} (t : Turn) → rule (get_or (0 ∷ part from n w₀) i 0) (drop i (part from n w₀)) ≡ t
-        → Appended w w' to cap count count' t.fresh → length t.fresh ≤ most_written * (1 + t.more)
-        → Sweeping rule w₀ w' from n to cap count₀ count' (i + 1 + t.more)
+        {w' : List ℕ} {o' : Writer} (t : Turn) → rule (get_or (0 ∷ part from n w₀) i 0) (drop i (part from n w₀)) ≡ t
+        → Appended w w' o o' t.fresh → length t.fresh ≤ most_written * (1 + t.more)
+        → Sweeping rule w₀ w' from n o₀ o' (i + 1 + t.more)
     sweeping-more t e a few =
         let s = part from n w₀ in
         let l = length_part from n w₀ regions.source in
@@ -118,13 +121,13 @@ module _ {rule : Rule} {w₀ w : List ℕ} {from n to cap count₀ count i : ℕ
 
     -- the symbol at place i has been copied
     pub sweeping-kept :
-        {w' : List ℕ} {count' : ℕ} → rule (get_or (0 ∷ part from n w₀) i 0) (drop i (part from n w₀)) ≡ kept (drop i (part from n w₀))
-        → Appended w w' to cap count count' (get_or w (from + i) 0 ∷ [])
-        → Sweeping rule w₀ w' from n to cap count₀ count' (i + 1)
-    sweeping-kept {w'} {count'} e a =
+        {w' : List ℕ} {o' : Writer} → rule (get_or (0 ∷ part from n w₀) i 0) (drop i (part from n w₀)) ≡ kept (drop i (part from n w₀))
+        → Appended w w' o o' (get_or w (from + i) 0 ∷ [])
+        → Sweeping rule w₀ w' from n o₀ o' (i + 1)
+    sweeping-kept {w'} {o'} e a =
         let one : get_or w (from + i) 0 ∷ [] ≡ take 1 (drop i (part from n w₀)) = symbol-read in
         let l = length-take 1 (drop i (part from n w₀)) in
-        subst (λ j. Sweeping rule w₀ w' from n to cap count₀ count' j) (add-zero (i + 1))
+        subst (λ j. Sweeping rule w₀ w' from n o₀ o' j) (add-zero (i + 1))
         (sweeping-more (kept (drop i (part from n w₀))) e (rw one at a) (omega arith))
       where
         symbol-read : get_or w (from + i) 0 ∷ [] ≡ take 1 (drop i (part from n w₀))

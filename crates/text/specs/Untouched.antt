@@ -12,15 +12,16 @@ use Rattle.spec.specs.Matches.{Match, any_match, somewhere}
 use Rattle.spec.specs.Laws.Booleans.{or_left, or-neither}
 use Rattle.spec.specs.Laws.Matches.{AtPattern, somewhere_from, somewhere-contains, somewhere-absent, somewhere-found}
 use Rattle.text_symbols.specs.Parts.{part, length_part, whole_part}
-use Rattle.text.specs.declared.Progress.{Progress}
-use Rattle.text.specs.declared.Progress.TheVariants.{Text, Refused}
+use Rattle.std.specs.Prelude.{Ok, Err}
 use Rattle.text.specs.declared.Due.{Due}
-use Rattle.text.specs.declared.Due.TheVariants.{Rewrite, Nothing}
+use Rattle.text.specs.declared.writer.Writer.{Writer}
+use Rattle.std.specs.Prelude.{Option as Maybe, Some, None}
+use Rattle.text.specs.Stage.{Progress, Text}
 use Rattle.text.specs.Due.{Absent, Told, Awaited, pattern-occurs}
 
 abbrev pub Unmatched : List ℕ → Progress → List Match → Type 0
-Unmatched w (Text from n) ms = any_match ms (part from n w) ≡ false
-Unmatched w (Refused k) ms = Unit {0}
+Unmatched w (Ok t) ms = any_match ms (part t.at t.n w) ≡ false
+Unmatched w (Err k) ms = Unit {0}
 
 pub record Untouched (w w' : List ℕ) (p p' : Progress) (ms : List Match) : Type 0 where
   pub stays : Unmatched w p ms → (w' ≡ w) × (p' ≡ p)
@@ -35,28 +36,28 @@ untouched-matched {w} {ms = ms} e matched = record { stays = λ none. absurd (fa
 -- ---- a test that holds only where the pattern stands that the stage waits for
 module _ {pattern : List ℕ} {test : ℕ → List ℕ → Bool} (at : AtPattern pattern test) where
   pub absent-unmatched : (w : List ℕ) (p : Progress) → Absent w pattern p → Unmatched w p (somewhere test 0 ∷ [])
-  absent-unmatched w (Text from n) absent = ap (λ b. b || false) (somewhere-absent at (part from n w) 0 absent)
-  absent-unmatched w (Refused k) absent = tt
+  absent-unmatched w (Ok t) absent = ap (λ b. b || false) (somewhere-absent at (part t.at t.n w) 0 absent)
+  absent-unmatched w (Err k) absent = tt
 
-  module _ {w : List ℕ} {p : Progress} {r : Due} (awaited : Awaited w p pattern r) where
-    pub nothing-unmatched : r ≡ Nothing → Unmatched w p (somewhere test 0 ∷ [])
+  module _ {w : List ℕ} {p : Progress} {r : Maybe Due} (awaited : Awaited w p pattern r) where
+    pub nothing-unmatched : r ≡ None → Unmatched w p (somewhere test 0 ∷ [])
     nothing-unmatched e = absent-unmatched w p (subst (Told w p pattern) e awaited.told)
 
     -- a search from the pattern's first place on, and what it has answered
-    module _ {from n to i : ℕ} (e : r ≡ Rewrite from n to i) where
+    module _ {from n : ℕ} {o : Writer} {i : ℕ} (e : r ≡ Some (record { source = record { at = from; n = n }; out = o; first = i })) where
       pub search-fits : (i < length (part from (from + n - from) w)) × (length (part from (from + n - from) w) ≤ half_work)
       search-fits =
-          let o = pattern-occurs awaited e in
-          let l = ap length (whole_part from n w) ∙ length_part from n w o.regions.source in
-          let h = o.within in let m = o.short in
+          let occurs = pattern-occurs awaited e in
+          let l = ap length (whole_part from n w) ∙ length_part from n w occurs.regions.source in
+          let h = occurs.within in let m = occurs.short in
           (omega arith, omega arith)
 
       module _ {b : Bool} (searched : b ≡ somewhere_from test (part from (from + n - from) w) i) where
         pub search-answered : somewhere test 0 (part from n w) ≡ b
         search-answered =
-            let o = pattern-occurs awaited e in
-            let l = length_part from n w o.regions.source in let h = o.within in
-            somewhere-found at (part from n w) 0 i (omega arith) o.found ∙ ap (λ s. somewhere_from test s i) (sym (whole_part from n w)) ∙ sym searched
+            let occurs = pattern-occurs awaited e in
+            let l = length_part from n w occurs.regions.source in let h = occurs.within in
+            somewhere-found at (part from n w) 0 i (omega arith) occurs.found ∙ ap (λ s. somewhere_from test s i) (sym (whole_part from n w)) ∙ sym searched
 
         pub searched-unmatched : b ≡ false → Unmatched w p (somewhere test 0 ∷ [])
         searched-unmatched none = subst (λ q. Unmatched w q (somewhere test 0 ∷ [])) (sym (pattern-occurs awaited e).text) (ap (λ b. b || false) (search-answered ∙ none))
@@ -72,8 +73,8 @@ pub untouched-alike :
 untouched-alike {w} {p = p} {ms = ms} {ms'} same a = record { stays = λ none. a.stays (go p none) }
   where
     go : (q : Progress) → Unmatched w q ms' → Unmatched w q ms
-    go (Text from n) none = same (part from n w) none
-    go (Refused k) none = tt
+    go (Ok t) none = same (part t.at t.n w) none
+    go (Err k) none = tt
 
 pub untouched-contains : {w w' : List ℕ} {p p' : Progress} (pattern : List ℕ) → Untouched w w' p p' (somewhere (λ before t. starts pattern t) 0 ∷ []) → Untouched w w' p p' (contains pattern ∷ [])
 untouched-contains pattern = untouched-alike (λ s none. ap (λ b. b || false) (somewhere-contains pattern 0 s) ∙ none)
@@ -100,8 +101,8 @@ module _ {w₀ w : List ℕ} {p₀ p : Progress} {all : List Match} where
   entries-more {w'} {p'} {left} here next entries e a = record { so_far = λ none. go (entries.so_far none) }
     where
       both : (q : Progress) → Unmatched w q left → Unmatched w q here × Unmatched w q next
-      both (Text from n) none = any-parts here next (part from n w) (ap (λ ms. any_match ms (part from n w)) (sym e) ∙ none)
-      both (Refused k) none = (tt, tt)
+      both (Ok t) none = any-parts here next (part t.at t.n w) (ap (λ ms. any_match ms (part t.at t.n w)) (sym e) ∙ none)
+      both (Err k) none = (tt, tt)
 
       go : (w ≡ w₀) × (p ≡ p₀) × Unmatched w p left → (w' ≡ w₀) × (p' ≡ p₀) × Unmatched w' p' next
       go before =

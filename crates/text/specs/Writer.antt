@@ -3,10 +3,12 @@
 --     Appended          what a writing function ensures: its count, and its buffer
 --     Regions           what a stage asks of the buffer
 -- Assumes nothing.
-use Rattle.std.specs.Prelude.{◌≡◌, refl, cond, List, [], ◌∷◌, ◌++◌, ◌⊎◌, ℕ, zero, suc, ◌+◌, ◌*◌, ◌≤◌, ◌<◌, ◌^◌, ltb, length, get_or, set, take, drop}
+use Rattle.std.specs.Prelude.{◌≡◌, refl, cond, List, [], ◌∷◌, ◌++◌, ◌⊎◌, ℕ, zero, suc, ◌+◌, ◌*◌, ◌-◌, ◌≤◌, ◌<◌, ◌^◌, ltb, length, get_or, set, take, drop}
 use Rattle.std.proofs.Common.{sym, ap, ◌∙◌, inl, inr, ⊎_elim, add-zero, suc-add, add-suc, not-suc-le-zero, add-one, arith, length-set, length-append, length-take, length-drop, take-suc, get_or-set_same, get_or-set_other, ext_get_or, lt-ltb, le-ltb}
 use Rattle.std.proofs.Math.Decide.{dec_lt}
 use Rattle.text_search.specs.Half.{half_work}
+use Rattle.spec.specs.Result.{most_symbols}
+use Rattle.text.specs.declared.writer.Writer.{Writer}
 use Rattle.text_symbols.specs.Parts.{part, get_d_part}
 
 unfoldable pub stored : List ℕ → ℕ → ℕ → ℕ → ℕ → List ℕ
@@ -17,14 +19,27 @@ puts w to cap count [] = w
 puts w to cap count (b ∷ bs) = puts (stored w to cap count b) to cap (suc count) bs
 
 -- what a writing function asks: the region lies within the buffer, and the count stays small
-pub record Room (w : List ℕ) (to cap count more : ℕ) : Type 0 where
-  pub region : to + cap ≤ length w
-  pub small : count + more < 2 ^ 32
+pub record Room (w : List ℕ) (o : Writer) (more : ℕ) : Type 0 where
+  pub region : o.to + o.cap ≤ length w
+  pub small : o.count + more < 2 ^ 32
 
 -- what it ensures: it has appended bs
-pub record Appended (w w' : List ℕ) (to cap count count' : ℕ) (bs : List ℕ) : Type 0 where
-  pub counted : count' ≡ count + length bs
-  pub work : w' ≡ puts w to cap count bs
+pub record Appended (w w' : List ℕ) (o o' : Writer) (bs : List ℕ) : Type 0 where
+  pub same-place : o'.to ≡ o.to
+  pub same-cap : o'.cap ≡ o.cap
+  pub counted : o'.count ≡ o.count + length bs
+  pub work : w' ≡ puts w o.to o.cap o.count bs
+
+-- a writer that has written nothing to the region at `to`, one without its last n symbols
+abbrev pub started : ℕ → Writer
+started to = record { to = to; cap = most_symbols; count = 0 }
+
+abbrev pub cut_by : ℕ → Writer → Writer
+cut_by n o = record { to = o.to; cap = o.cap; count = o.count - n }
+
+-- and one with n symbols more
+abbrev pub grown_by : ℕ → Writer → Writer
+grown_by n o = record { to = o.to; cap = o.cap; count = o.count + n }
 
 abbrev pub Outside : ℕ → ℕ → ℕ → Type 0
 Outside to cap j = (j < to) ⊎ (to + cap ≤ j)
@@ -34,23 +49,27 @@ abbrev pub Untouched : ℕ → ℕ → ℕ → ℕ → Type 0
 Untouched to cap count j = (j < to + count) ⊎ (to + cap ≤ j)
 
 -- n bytes at `from` lie apart from a region
-abbrev pub Apart : ℕ → ℕ → ℕ → ℕ → Type 0
-Apart from n to cap = (from + n ≤ to) ⊎ (to + cap ≤ from)
+abbrev pub Apart : ℕ → ℕ → Writer → Type 0
+Apart from n o = (from + n ≤ o.to) ⊎ (o.to + o.cap ≤ from)
 
-pub apart-part : (from n to cap i m : ℕ) → Apart from n to cap → i + m ≤ n → Apart (from + i) m to cap
-apart-part from n to cap i m o h = ⊎_elim (λ l. inl (omega arith)) (λ l. inr (omega arith)) o
+pub apart-part : (from n : ℕ) (o : Writer) (i m : ℕ) → Apart from n o → i + m ≤ n → Apart (from + i) m o
+apart-part from n o i m a h = ⊎_elim (λ l. inl (omega arith)) (λ l. inr (omega arith)) a
+
+-- the same after an append
+pub apart-kept : {w w' : List ℕ} {o o' : Writer} {bs : List ℕ} (from n : ℕ) → Appended w w' o o' bs → Apart from n o → Apart from n o'
+apart-kept from n a h = let t = a.same-place in let c = a.same-cap in ⊎_elim (λ l. inl (omega arith)) (λ l. inr (omega arith)) h
 
 -- a stage writes at most this many symbols for each that it reads: the LaTeX of a definition, which has less
 abbrev pub most_written : ℕ
 most_written = 8192
 
 -- what a stage asks: n symbols at `from`, and apart from them a region in which `count` bytes have been written
-pub record Regions (w : List ℕ) (from n to cap count : ℕ) : Type 0 where
+pub record Regions (w : List ℕ) (from n : ℕ) (o : Writer) : Type 0 where
   pub source : from + n ≤ length w
-  pub region : to + cap ≤ length w
-  pub apart : Apart from n to cap
+  pub region : o.to + o.cap ≤ length w
+  pub apart : Apart from n o
   pub short : n ≤ half_work
-  pub small : count + most_written * n < 2 ^ 31
+  pub small : o.count + most_written * n < 2 ^ 31
 
 -- ---- a byte is stored below the capacity, and not from there on
 stored-in : (w : List ℕ) (to cap count b : ℕ) → count < cap → stored w to cap count b ≡ set w (to + count) b
@@ -122,8 +141,8 @@ unfolding puts
 puts-past [] w to cap count h = refl
 puts-past (b ∷ bs) w to cap count h = ap (λ v. puts v to cap (suc count) bs) (stored-out w to cap count b h) ∙ puts-past bs w to cap (suc count) (omega arith)
 
-pub appended-past : (bs w : List ℕ) (to cap count : ℕ) → cap ≤ count → Appended w w to cap count (count + length bs) bs
-appended-past bs w to cap count h = record { counted = refl; work = sym (puts-past bs w to cap count h) }
+pub appended-past : (bs w : List ℕ) (o : Writer) → o.cap ≤ o.count → Appended w w o (grown_by (length bs) o) bs
+appended-past bs w o h = record { same-place = refl; same-cap = refl; counted = refl; work = sym (puts-past bs w o.to o.cap o.count h) }
 
 -- ---- two appends in a row are one
 puts-append : (bs cs w : List ℕ) (to cap count : ℕ) → puts (puts w to cap count bs) to cap (count + length bs) cs ≡ puts w to cap count (bs ++ cs)
@@ -132,49 +151,53 @@ puts-append [] cs w to cap count = rw add-zero
 puts-append (b ∷ bs) cs w to cap count =
     rw (add-suc count (length bs), ← suc-add count (length bs)) (puts-append bs cs (stored w to cap count b) to cap (suc count))
 
-pub appended-none : (w : List ℕ) (to cap count : ℕ) → Appended w w to cap count count []
+pub appended-none : (w : List ℕ) (o : Writer) → Appended w w o o []
 unfolding puts
-appended-none w to cap count = record { counted = sym (add-zero count); work = refl }
+appended-none w o = record { same-place = refl; same-cap = refl; counted = sym (add-zero o.count); work = refl }
 
 pub appended-more :
-    {w w' w'' : List ℕ} {to cap count count' count'' : ℕ} {bs cs : List ℕ}
-    → Appended w w' to cap count count' bs
-    → Appended w' w'' to cap count' count'' cs
-    → Appended w w'' to cap count count'' (bs ++ cs)
-appended-more {w} {w'} {w''} {to} {cap} {count} {count'} {count''} {bs} {cs} a b =
+    {w w' w'' : List ℕ} {o o' o'' : Writer} {bs cs : List ℕ}
+    → Appended w w' o o' bs
+    → Appended w' w'' o' o'' cs
+    → Appended w w'' o o'' (bs ++ cs)
+appended-more {w} {o = o} {bs = bs} {cs} a b =
     record {
-      counted = rw (length-append bs cs) (omega arith);
-      work = b.work ∙ (rw (a.work, a.counted) (puts-append bs cs w to cap count));
+      same-place = b.same-place ∙ a.same-place;
+      same-cap = b.same-cap ∙ a.same-cap;
+      counted = rw (length-append bs cs) (let m = a.counted in let n = b.counted in omega arith);
+      work = b.work ∙ (rw (a.work, a.same-place, a.same-cap, a.counted) (puts-append bs cs w o.to o.cap o.count));
     }
 
-pub appended-long : {w w' : List ℕ} {to cap count count' : ℕ} {bs : List ℕ} → Appended w w' to cap count count' bs → length w' ≡ length w
-appended-long {w} {to = to} {cap} {count} {bs = bs} a = ap length a.work ∙ length-puts bs w to cap count
+pub appended-long : {w w' : List ℕ} {o o' : Writer} {bs : List ℕ} → Appended w w' o o' bs → length w' ≡ length w
+appended-long {w} {o = o} {bs = bs} a = ap length a.work ∙ length-puts bs w o.to o.cap o.count
 
 -- ---- a list that is appended byte by byte: i of them have been, and one more is
-module _ {w w' : List ℕ} {to cap count count' : ℕ} (bs : List ℕ) (i : ℕ) (a : Appended w w' to cap count count' (take i bs)) (more : i < length bs) where
-  pub next-room : Room w to cap count (length bs) → Room w' to cap count' 1
-  next-room r = let l = appended-long a in let n = length-take i bs in let t = a.counted in let g = r.region in let s = r.small in record { region = omega arith; small = omega arith }
+module _ {w w' : List ℕ} {o o' : Writer} (bs : List ℕ) (i : ℕ) (a : Appended w w' o o' (take i bs)) (more : i < length bs) where
+  pub next-room : Room w o (length bs) → Room w' o' 1
+  next-room r =
+      let l = appended-long a in let n = length-take i bs in let t = a.counted in let p = a.same-place in let q = a.same-cap in
+      let g = r.region in let s = r.small in record { region = omega arith; small = omega arith }
 
-  pub next-appended : {w'' : List ℕ} {count'' : ℕ} → Appended w' w'' to cap count' count'' (get_or bs i 0 ∷ []) → Appended w w'' to cap count count'' (take (i + 1) bs)
+  pub next-appended : {w'' : List ℕ} {o'' : Writer} → Appended w' w'' o' o'' (get_or bs i 0 ∷ []) → Appended w w'' o o'' (take (i + 1) bs)
   next-appended b = rw (add-one i, take-suc bs i 0 more) (appended-more a b)
 
 -- the room that is left behind an append
-pub room-left : {w w' : List ℕ} {to cap count count' : ℕ} {bs : List ℕ} (m : ℕ) → Appended w w' to cap count count' bs → Room w to cap count (length bs + m) → Room w' to cap count' m
+pub room-left : {w w' : List ℕ} {o o' : Writer} {bs : List ℕ} (m : ℕ) → Appended w w' o o' bs → Room w o (length bs + m) → Room w' o' m
 room-left m a r =
-    let l = appended-long a in let n = a.counted in let g = r.region in let s = r.small in
+    let l = appended-long a in let n = a.counted in let p = a.same-place in let q = a.same-cap in let g = r.region in let s = r.small in
     record { region = omega arith; small = omega arith }
 
 -- ---- where nothing outside the region changes, a part that lies apart from it is as it was
 pub part_apart :
-    (w w' : List ℕ) (to cap : ℕ) → length w' ≡ length w → ((j : ℕ) → Outside to cap j → get_or w' j 0 ≡ get_or w j 0)
-    → (from n : ℕ) → Apart from n to cap → part from n w' ≡ part from n w
-part_apart w w' to cap long kept from n o =
+    (w w' : List ℕ) (o : Writer) → length w' ≡ length w → ((j : ℕ) → Outside o.to o.cap j → get_or w' j 0 ≡ get_or w j 0)
+    → (from n : ℕ) → Apart from n o → part from n w' ≡ part from n w
+part_apart w w' o long kept from n apart =
     ext_get_or 0 (part from n w') (part from n w) (simp (length-take, length-drop) (rw long))
     (λ i h. (let l = length-take n (drop from w') in let b : i < n = omega arith in
     get_d_part from n w' i b
-    ∙ kept (from + i) (⊎_elim (λ l. inl (omega arith)) (λ l. inr (omega arith)) o)
+    ∙ kept (from + i) (⊎_elim (λ l. inl (omega arith)) (λ l. inr (omega arith)) apart)
     ∙ sym (get_d_part from n w i b)))
 
-pub appended-part : {w w' : List ℕ} {to cap count count' : ℕ} {bs : List ℕ} → Appended w w' to cap count count' bs → (from n : ℕ) → Apart from n to cap → part from n w' ≡ part from n w
-appended-part {w} {w'} {to} {cap} {count} {bs = bs} a =
-    part_apart w w' to cap (appended-long a) (λ j o. ap (λ v. get_or v j 0) a.work ∙ puts-outside bs w to cap count j o)
+pub appended-part : {w w' : List ℕ} {o o' : Writer} {bs : List ℕ} → Appended w w' o o' bs → (from n : ℕ) → Apart from n o → part from n w' ≡ part from n w
+appended-part {w} {w'} {o} {bs = bs} a =
+    part_apart w w' o (appended-long a) (λ j h. ap (λ v. get_or v j 0) a.work ∙ puts-outside bs w o.to o.cap o.count j h)

@@ -6,11 +6,10 @@
 mod writer;
 
 ghost use Rattle.std.specs.Prelude.{◌≡◌};
-ghost use Rattle.text.specs.Stage.{Ready, judged, number as numbered};
+ghost use Rattle.text.specs.Stage.{Ready, number as numbered};
 ghost use Rattle.text.specs.Due.{Awaited};
 
-use text_search::Found;
-pub use writer::{clear, copy, copy_one, put, put_all, saturating_sub};
+pub use writer::{Writer, clear};
 
 // Number 2: the most bytes of a formula, and so of a plain text.
 pub const MOST_FORMULA: usize = 4_096;
@@ -21,81 +20,65 @@ pub const ALL_TALL: u32 = 31;
 // The most symbols of a stage's finished text, and so the room of each of the two regions that texts lie in.
 pub const CAP: usize = 8_192;
 
-// Why a call is refused, by the trade's words. `LostBlock` is kept for its number: no call gives it. `NoWord` is met by the word under
-// the pointer alone.
+// Why a call is refused, by the trade's words, with document 01's number, or document 02's for 15 and 16. `LostBlock` is kept for its number:
+// no call gives it. `NoWord` is met by the word under the pointer alone.
 #[derive(Clone, Copy)]
 pub enum Refusal {
-    ForeignByte,
-    LongFormula,
-    FaultyTable,
-    NarrowWork,
-    Overgrown,
-    LostBlock,
-    Unsettled,
-    BareDelimiter,
-    BarredSolidus,
-    ShortOutput,
-    TallField,
-    NoWord,
+    ForeignByte = 1,
+    LongFormula = 2,
+    FaultyTable = 3,
+    NarrowWork = 4,
+    Overgrown = 5,
+    LostBlock = 6,
+    Unsettled = 7,
+    BareDelimiter = 8,
+    BarredSolidus = 9,
+    ShortOutput = 10,
+    TallField = 15,
+    NoWord = 16,
 }
 
-// The number of a refusal: document 01's, and document 02's 15 and 16.
-pub fn number(why: Refusal) -> u64
-    ensures { result ≡ numbered why }
-{
-    match why {
-        Refusal::ForeignByte => 1,
-        Refusal::LongFormula => 2,
-        Refusal::FaultyTable => 3,
-        Refusal::NarrowWork => 4,
-        Refusal::Overgrown => 5,
-        Refusal::LostBlock => 6,
-        Refusal::Unsettled => 7,
-        Refusal::BareDelimiter => 8,
-        Refusal::BarredSolidus => 9,
-        Refusal::ShortOutput => 10,
-        Refusal::TallField => 15,
-        Refusal::NoWord => 16,
+impl From<Refusal> for u64 {
+    ghost from_gives = { λ why n. n ≡ numbered why };
+
+    fn from(why: Refusal) -> u64 {
+        why as u64
     }
 }
 
-// A text's place and length in the work buffer, or its refusal.
+// Where a text lies in the work buffer, and its length.
 #[derive(Clone, Copy)]
-pub enum Progress {
-    Text(usize, usize),
-    Refused(Refusal),
+pub struct TextPlace {
+    pub at: usize,
+    pub n: usize,
 }
 
-// The finished text of `count` symbols at `to`, or number 5.
-pub fn finished(to: usize, count: usize) -> Progress
-    ensures { result ≡ judged to count }
-{
-    if CAP < count {
-        return Progress::Refused(Refusal::Overgrown);
-    }
-    Progress::Text(to, count)
-}
+// How far a formula has come: its text, or its refusal. A stage is given either, so that a refused formula passes through as it is.
+pub type Progress = Result<TextPlace, Refusal>;
 
-// What a stage that waits for a pattern has to do.
+// What a stage that waits for a pattern has to do: it rewrites the text at `source` to the other region, and the pattern stands at `first`
+// for the first time.
 #[derive(Clone, Copy)]
-pub enum Due {
-    // The text's place and length, the place to write to, and the pattern's first place in the text.
-    Rewrite(usize, usize, usize, usize),
-    // The text has been refused before, or the pattern is nowhere in it.
-    Nothing,
+pub struct Due {
+    pub source: TextPlace,
+    pub out: Writer,
+    pub first: usize,
 }
 
-pub fn due_for(work: &[u8], text: Progress, pattern: &[u8]) -> Due
+// What there is to do, or nothing: the text has been refused before, or the pattern is nowhere in it.
+pub fn due_for(work: &[u8], text: Progress, pattern: &[u8]) -> Option<Due>
     requires { Ready work.now text }
     ensures { Awaited work.now text pattern.now result }
 {
-    let Progress::Text(from, n) = text else {
-        return Due::Nothing;
+    let Ok(source) = text else {
+        return None;
     };
-    let end = from + n;
-    let Found::At(i) = text_search::find(&work[from..end], pattern) else {
-        return Due::Nothing;
-    };
-    let to = CAP - from;
-    Due::Rewrite(from, n, to, i)
+    let from = source.at;
+    let end = from + source.n;
+    let first = text_search::find(&work[from..end], pattern)?;
+    Some(Due {
+        source,
+        out: Writer::new(CAP - from),
+        first,
+    })
 }

@@ -12,7 +12,7 @@ use Rattle.spec.specs.Closing.{Side, opens, closes, neither, side_of, depth_afte
 use Rattle.spec.specs.Laws.Symbols.{drop-step, past-drop}
 use Rattle.text_search.specs.Half.{half_work}
 use Rattle.text_search.specs.Search.{Closes}
-use Rattle.text_search.specs.declared.Found.{Found}
+use Rattle.std.specs.Prelude.{Some, None}
 use Rattle.text_closing.specs.declared.Tally.{Tally}
 
 abbrev pub started : ℕ → ℕ → Tally
@@ -106,12 +106,12 @@ tallied-none s o c =
 
 module _ {o c : ℕ} {s : List ℕ} {t : Tally} {i : ℕ} (tallied : Tallied o c s t i) where
   -- at the ceiling too few symbols are left
-  pub tallied-deep : t.depth ≡ 8193 → length s ≤ half_work → Closes s Found.Nothing (close o c 0 s)
+  pub tallied-deep : t.depth ≡ 8193 → length s ≤ half_work → Closes s None (close o c 0 s)
   tallied-deep e short =
       let left = length-drop i s in let few = tallied.few-open in
       record { within = omega arith; left = sym (tallied.decides ∙ close_deep o c (t.depth - 1) (drop i s) (omega arith)) }
 
-  pub tallied-end : length s ≤ i → Closes s Found.Nothing (close o c 0 s)
+  pub tallied-end : length s ≤ i → Closes s None (close o c 0 s)
   tallied-end h = record { within = omega arith; left = sym (tallied.decides ∙ close-end o c (t.depth - 1) s i h) }
 
   -- symbols that change no depth
@@ -135,7 +135,7 @@ module _ {o c : ℕ} {s : List ℕ} {t : Tally} {i : ℕ} (tallied : Tallied o c
     opened : close o c 0 s ≡ close_from o c t.depth (get_or s i 0 ∷ drop (i + 1) s)
     opened = tallied.decides ∙ ap (close_from o c t.depth) (drop-step s i more)
 
-    pub tallied-here : t'.depth ≡ 0 → Closes s (Found.At i) (close o c 0 s)
+    pub tallied-here : t'.depth ≡ 0 → Closes s (Some i) (close o c 0 s)
     tallied-here closed = record { within = omega arith; left = sym (opened ∙ close-here o c t.depth (get_or s i 0) (drop (i + 1) s) tallied.some-open (sym depth ∙ closed)) }
 
     pub tallied-more : t.depth < 8193 → 0 < t'.depth → Tallied o c s t' (i + 1)

@@ -5,21 +5,18 @@ ghost use Rattle.spec.specs.Closing.{close};
 ghost use Rattle.text_closing.specs.Backward.{ClosesBack};
 
 use super::Tally;
-use text_search::Found;
 
 // The place of the bracket that belongs to the one behind the text. Read backwards, `opener` opens and `closer` closes.
-pub fn find_closer_back(s: &[u8], opener: u8, closer: u8) -> Found
+pub fn find_closer_back(s: &[u8], opener: u8, closer: u8) -> Option<usize>
     requires { length s.now ≤ most_symbols }
     ensures { ClosesBack s.now result (close opener closer 0 (reverse s.now)) }
 {
     let mut tally = Tally::new(opener, closer);
-    let mut i = s.len();
-    while 0 < i {
-        i -= 1;
+    for i in (0..s.len()).rev() {
         tally = tally.step(s[i]);
         if tally.depth == 0 {
-            return Found::At(i);
+            return Some(i);
         }
     }
-    Found::Nothing
+    None
 }

@@ -11,13 +11,11 @@ pub fn is_level(s: &[u8], opener: u8, closer: u8) -> bool
     ensures { result ≡ level opener closer 0 s.now }
 {
     let mut tally = Tally::new(opener, closer);
-    let mut i = 0;
-    while i < s.len() {
-        tally = tally.step(s[i]);
+    for b in s {
+        tally = tally.step(*b);
         if tally.depth == 0 {
             return false;
         }
-        i += 1;
     }
     tally.depth == 1
 }

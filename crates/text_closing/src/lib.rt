@@ -12,7 +12,6 @@ ghost use Rattle.text_closing.specs.Closing.{started, stepped};
 
 pub use backward::find_closer_back;
 pub use level::is_level;
-use text_search::Found;
 
 // How deep the brackets of one kind are open.
 #[derive(Clone, Copy)]
@@ -55,27 +54,25 @@ impl Tally {
 }
 
 // The offset of the closer of one open bracket: the first at which the tally comes to 0.
-pub fn find_closer(s: &[u8], opener: u8, closer: u8) -> Found
+pub fn find_closer(s: &[u8], opener: u8, closer: u8) -> Option<usize>
     requires { length s.now ≤ half_work }
     ensures { Closes s.now result (close opener closer 0 s.now) }
 {
     let mut tally = Tally::new(opener, closer);
-    let mut i = 0;
-    while i < s.len() {
+    for (i, b) in s.iter().enumerate() {
         if tally.depth == Tally::GREATEST {
-            return Found::Nothing;
+            return None;
         }
-        tally = tally.step(s[i]);
+        tally = tally.step(*b);
         if tally.depth == 0 {
-            return Found::At(i);
+            return Some(i);
         }
-        i += 1;
     }
-    Found::Nothing
+    None
 }
 
 // The offset of the `)` that closes a group whose `(` has been passed.
-pub fn find_matching_paren(s: &[u8]) -> Found
+pub fn find_matching_paren(s: &[u8]) -> Option<usize>
     requires { length s.now ≤ half_work }
     ensures { Closes s.now result (find_matching_paren s.now) }
 {
@@ -83,7 +80,7 @@ pub fn find_matching_paren(s: &[u8]) -> Found
 }
 
 // The offset of the `}` that closes a group whose `{` has been passed.
-pub fn find_matching_brace(s: &[u8]) -> Found
+pub fn find_matching_brace(s: &[u8]) -> Option<usize>
     requires { length s.now ≤ half_work }
     ensures { Closes s.now result (find_matching_brace s.now) }
 {
@@ -91,15 +88,13 @@ pub fn find_matching_brace(s: &[u8]) -> Found
 }
 
 // The offset of the closer that belongs to the bracket that the text begins with.
-pub fn matching_delimiter(s: &[u8], opener: u8, closer: u8) -> Found
+pub fn matching_delimiter(s: &[u8], opener: u8, closer: u8) -> Option<usize>
     requires { length s.now ≤ half_work }
     ensures { Closes s.now result (matching_delimiter opener closer s.now) }
 {
-    if s.len() == 0 {
-        return Found::Nothing;
+    if s.is_empty() {
+        return None;
     }
-    let Found::At(k) = find_closer(&s[1..], opener, closer) else {
-        return Found::Nothing;
-    };
-    Found::At(k + 1)
+    let k = find_closer(&s[1..], opener, closer)?;
+    Some(k + 1)
 }

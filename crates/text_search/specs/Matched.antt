@@ -5,9 +5,8 @@ use Rattle.std.proofs.Math.Option.{some}
 use Rattle.spec.specs.Symbols.{find}
 use Rattle.spec.specs.Laws.Symbols.{find-tail}
 use Rattle.spec.specs.Laws.Matches.{AtPattern, somewhere_from, from-here, from_past, from-absent, from_found}
-use Rattle.text_search.specs.Search.{Finds, finds-at, finds-within, finds-nothing}
-use Rattle.text_search.specs.declared.Found.{Found}
-use Rattle.text_search.specs.declared.Found.TheVariants.{At, Nothing}
+use Rattle.text_search.specs.Search.{Found, Finds, finds-at, finds-within, finds-nothing}
+use Rattle.std.specs.Prelude.{Some, None}
 
 -- there is no match from `start` up to place i
 pub record Searching (test : ℕ → List ℕ → Bool) (s : List ℕ) (start i : ℕ) : Type 0 where
@@ -29,10 +28,10 @@ module _ {test : ℕ → List ℕ → Bool} {s : List ℕ} {start i : ℕ} (sear
       behind : somewhere_from test s (i + 1) ≡ somewhere_from test s start
       behind = sym (from_past test s i searching.within none) ∙ searching.same
 
-      pub no-match : r ≡ Nothing → false ≡ somewhere_from test s start
+      pub no-match : r ≡ None → false ≡ somewhere_from test s start
       no-match e = sym (from-absent only s (i + 1) (finds-nothing finds e)) ∙ behind
 
-      module _ {k : ℕ} (e : r ≡ At k) where
+      module _ {k : ℕ} (e : r ≡ Some k) where
         pub place_after : i < k
         place_after =
             let h = finds-within finds e in let t = (find-tail pattern (drop (i + 1) s) (drop k s) (finds-at finds e)).shorter in

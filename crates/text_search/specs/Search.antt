@@ -3,31 +3,33 @@
 --     left_over, Closes     of a search whose offset is a closer's or a comma's, and what it leaves over lies behind it
 --     Gap                  of the symbols before a pattern
 --     Passed, Sought       of a search for one symbol
---     PrefixMet            the loop of `starts_with`: the pattern's first i symbols have been met
 -- Assumes nothing.
 use Rattle.std.specs.Prelude.{◌≡◌, refl, Bool, true, false, ◌||◌, List, [], ◌∷◌, ◌⊎◌, ℕ, zero, suc, ◌+◌, ◌-◌, ◌≤◌, ◌<◌, pred, eqb, length, get_or, take, drop}
-use Rattle.std.proofs.Common.{sym, ap, ◌∙◌, subst, ⊎_elim, inl, inr, arith, length-drop, drop_of_length-le, drop-drop}
+use Rattle.std.proofs.Common.{sym, ap, ◌∙◌, subst, ⊎_elim, inl, inr, arith, length-drop, drop-drop}
 use Rattle.std.proofs.lemmas.Bool.{false≢true, eqb-false}
 use Rattle.std.proofs.Math.Option.{Option, none, some}
 use Rattle.std.proofs.Math.Decide.{dec_lt}
-use Rattle.spec.specs.Laws.Symbols.{drop-step, any-end, starts_other, starts-same, contains-find, find-drop, find-nowhere}
+use Rattle.spec.specs.Laws.Symbols.{drop-step, any-end, starts_other, contains-find, find-drop, find-nowhere}
 use Rattle.spec.specs.Symbols.{is_some, any, inside, until, starts, find, contains}
 use Rattle.text_symbols.specs.Parts.{part, rest_of}
-use Rattle.text_search.specs.declared.Found.{Found}
-use Rattle.text_search.specs.declared.Found.TheVariants.{At, Nothing}
+use Rattle.std.specs.Prelude.{Option as Maybe, Some, None, unwrap_or, is_some as found_any}
+
+-- the code's own `Option`, which is another type than that of the definitions
+abbrev pub Found : Type 0
+Found = Maybe ℕ
 
 abbrev pub onward : List ℕ → Found → Option (List ℕ)
-onward s (At k) = some (drop k s)
-onward s Nothing = none
+onward s (Some k) = some (drop k s)
+onward s None = none
 
 abbrev pub left_over : List ℕ → Found → Option (List ℕ)
-left_over s (At k) = some (drop (k + 1) s)
-left_over s Nothing = none
+left_over s (Some k) = some (drop (k + 1) s)
+left_over s None = none
 
 -- as many symbols as a text has at the least, of which this is found
 abbrev pub reach : Found → ℕ
-reach (At k) = k + 1
-reach Nothing = 0
+reach (Some k) = k + 1
+reach None = 0
 
 pub record Finds (s : List ℕ) (r : Found) (o : Option (List ℕ)) : Type 0 where
   pub within : reach r ≤ length s
@@ -39,22 +41,22 @@ pub record Closes (s : List ℕ) (r : Found) (o : Option (List ℕ)) : Type 0 wh
 
 -- ---- what an answer tells
 module _ {s : List ℕ} {r : Found} {o : Option (List ℕ)} where
-  pub finds-at : {k : ℕ} → Finds s r o → r ≡ At k → o ≡ some (drop k s)
+  pub finds-at : {k : ℕ} → Finds s r o → r ≡ Some k → o ≡ some (drop k s)
   finds-at f e = sym f.found ∙ ap (onward s) e
 
-  pub finds-within : {k : ℕ} → Finds s r o → r ≡ At k → k < length s
+  pub finds-within : {k : ℕ} → Finds s r o → r ≡ Some k → k < length s
   finds-within f e = let b = ap reach e in let w = f.within in omega arith
 
-  pub finds-nothing : Finds s r o → r ≡ Nothing → o ≡ none
+  pub finds-nothing : Finds s r o → r ≡ None → o ≡ none
   finds-nothing f e = sym f.found ∙ ap (onward s) e
 
-  pub closes-at : {k : ℕ} → Closes s r o → r ≡ At k → o ≡ some (drop (k + 1) s)
+  pub closes-at : {k : ℕ} → Closes s r o → r ≡ Some k → o ≡ some (drop (k + 1) s)
   closes-at f e = sym f.left ∙ ap (left_over s) e
 
-  pub closes-within : {k : ℕ} → Closes s r o → r ≡ At k → k < length s
+  pub closes-within : {k : ℕ} → Closes s r o → r ≡ Some k → k < length s
   closes-within f e = let b = ap reach e in let w = f.within in omega arith
 
-  pub closes-nothing : Closes s r o → r ≡ Nothing → o ≡ none
+  pub closes-nothing : Closes s r o → r ≡ None → o ≡ none
   closes-nothing f e = sym f.left ∙ ap (left_over s) e
 
 -- ---- a loop that looks at every symbol: what was met, or the symbols from i on, decide
@@ -160,18 +162,14 @@ free-nowhere pattern [] e j l = absurd (omega arith)
 free-nowhere pattern (x ∷ s) e zero l = (find-nowhere pattern x s e).0
 free-nowhere pattern (x ∷ s) e (suc j) l = free-nowhere pattern s (find-nowhere pattern x s e).1 j (omega arith)
 
-pub gap-before : {pattern s : List ℕ} {r : Found} {k : ℕ} → Finds s r (find pattern s) → r ≡ At k → Gap pattern s k
-gap-before {pattern} {s} {k = k} f e = let h = finds-within f e in record { within = omega arith; free = free-before pattern s k h (finds-at f e) }
-
-pub gap-whole : {pattern s : List ℕ} {r : Found} → Finds s r (find pattern s) → r ≡ Nothing → Gap pattern s (length s)
-gap-whole {pattern} {s} f e = record { within = omega arith; free = free-nowhere pattern s (finds-nothing f e) }
+pub gap-found : (pattern s : List ℕ) {r : Found} → Finds s r (find pattern s) → Gap pattern s (unwrap_or r (length s))
+gap-found pattern s {r = Some k} f = let h = finds-within f refl in record { within = omega arith; free = free-before pattern s k h (finds-at f refl) }
+gap-found pattern s {r = None} f = record { within = omega arith; free = free-nowhere pattern s (finds-nothing f refl) }
 
 -- ---- whether a pattern occurs
-pub contains-at : (w s : List ℕ) {r : Found} {k : ℕ} → Finds s r (find w s) → r ≡ At k → contains w s ≡ true
-contains-at w s f e = sym (contains-find w s) ∙ ap is_some (finds-at f e)
-
-pub contains-not : (w s : List ℕ) {r : Found} → Finds s r (find w s) → r ≡ Nothing → contains w s ≡ false
-contains-not w s f e = sym (contains-find w s) ∙ ap is_some (finds-nothing f e)
+pub contains-found : (w s : List ℕ) {r : Found} → Finds s r (find w s) → found_any r ≡ contains w s
+contains-found w s {r = Some k} f = sym (sym (contains-find w s) ∙ ap is_some (finds-at f refl))
+contains-found w s {r = None} f = sym (sym (contains-find w s) ∙ ap is_some (finds-nothing f refl))
 
 -- ---- the text before a place, and before a closer or comma
 pub until-drop : (s : List ℕ) (k : ℕ) → k ≤ length s → until s (drop k s) ≡ take k s
@@ -193,27 +191,13 @@ module _ (s : List ℕ) (i : ℕ) (f : List ℕ → Option (List ℕ)) {r : Foun
   finds-rest a = subst (λ l. Finds l r (f l)) (rest_of i s) a
 
 -- what is found there stands so much later in the whole
-pub finds-later : {s : List ℕ} {r : Found} {o : Option (List ℕ)} {k : ℕ} (i : ℕ) → Finds (drop i s) r o → r ≡ At k → Finds s (At (i + k)) o
+pub finds-later : {s : List ℕ} {r : Found} {o : Option (List ℕ)} {k : ℕ} (i : ℕ) → Finds (drop i s) r o → r ≡ Some k → Finds s (Some (i + k)) o
 finds-later {s} {k = k} i a e =
     let w = finds-within a e in let d = length-drop i s in
     record { within = omega arith; found = ap some (sym (drop-drop k i s)) ∙ sym (finds-at a e) }
 
-pub closes-later : {s : List ℕ} {r : Found} {o : Option (List ℕ)} {k : ℕ} (i : ℕ) → i ≤ length s → Closes (drop i s) r o → r ≡ At k → Closes s (At (i + k)) o
+pub closes-later : {s : List ℕ} {r : Found} {o : Option (List ℕ)} {k : ℕ} (i : ℕ) → i ≤ length s → Closes (drop i s) r o → r ≡ Some k → Closes s (Some (i + k)) o
 closes-later {s} {k = k} i h a e =
     let w = closes-within a e in let d = length-drop i s in
     let n : i + (k + 1) ≡ i + k + 1 = omega arith in
     record { within = omega arith; left = sym (closes-at a e ∙ ap some (drop-drop (k + 1) i s ∙ ap (λ m. drop m s) n)) }
-
--- ---- the pattern's first i symbols have been met, and the rest decides
-pub record PrefixMet (pattern s : List ℕ) (i : ℕ) : Type 0 where
-  pub same-as-whole : starts pattern s ≡ starts (drop i pattern) (drop i s)
-
-module _ {pattern s : List ℕ} {i : ℕ} (met : PrefixMet pattern s i) (more : i < length pattern) where
-  pub not-met : i < length s → (get_or s i 0 ≡ get_or pattern i 0 → ⊥) → starts pattern s ≡ false
-  not-met inside other = met.same-as-whole ∙ rw (drop-step pattern i more, drop-step s i inside) (starts_other (get_or pattern i 0) (get_or s i 0) (drop (i + 1) pattern) (drop (i + 1) s) other)
-
-  pub met-more : i < length s → get_or s i 0 ≡ get_or pattern i 0 → PrefixMet pattern s (i + 1)
-  met-more inside same = record { same-as-whole = met.same-as-whole ∙ rw (drop-step pattern i more, drop-step s i inside) (starts-same (get_or pattern i 0) (get_or s i 0) (drop (i + 1) pattern) (drop (i + 1) s) same) }
-
-pub all-met : {pattern s : List ℕ} {i : ℕ} → PrefixMet pattern s i → length pattern ≤ i → starts pattern s ≡ true
-all-met {pattern} {s} {i} met h = met.same-as-whole ∙ rw (drop_of_length-le pattern h)

@@ -5,36 +5,18 @@ ghost use Rattle.std.specs.Prelude.{◌≡◌, ◌∷◌, ◌≤◌, eqb, length
 ghost use Rattle.spec.specs.Symbols.{any, same, starts, find as found, contains as occurs};
 ghost use Rattle.text_search.specs.Search.{Finds, Gap, Passed, Sought};
 
-// What a search answers.
-#[derive(Clone, Copy)]
-pub enum Found {
-    At(usize),
-    Nothing,
-}
-
 // Whether the text begins with the pattern.
 pub fn starts_with(s: &[u8], pattern: &[u8]) -> bool
     ensures { result ≡ starts pattern.now s.now }
 {
-    if s.len() < pattern.len() {
-        return false;
-    }
-    for i in 0..pattern.len() {
-        if s[i] != pattern[i] {
-            return false;
-        }
-    }
-    true
+    s.starts_with(pattern)
 }
 
 // Whether the two texts are the same.
 pub fn is_same(a: &[u8], b: &[u8]) -> bool
     ensures { result ≡ same a.now b.now }
 {
-    if a.len() != b.len() {
-        return false;
-    }
-    starts_with(a, b)
+    a == b
 }
 
 // Whether the symbol is among these 8. All of them are looked at, which the compiler does at once.
@@ -43,8 +25,8 @@ fn is_among(block: &[u8], b: u8) -> bool
     ensures { result ≡ any (λ x. eqb x b) block.now }
 {
     let mut among = false;
-    for i in 0..8 {
-        among = among | (block[i] == b);
+    for x in block {
+        among |= *x == b;
     }
     among
 }
@@ -56,6 +38,7 @@ fn pass(s: &[u8], i: usize, b: u8) -> usize
     ensures { Passed s.now i b result }
 {
     let mut k = i;
+    // The place is the answer: over chunks of the slice it would have to be counted beside them.
     while 8 <= s.len() - k {
         let end = k + 8;
         if is_among(&s[k..end], b) {
@@ -78,78 +61,63 @@ fn seek(s: &[u8], i: usize, b: u8) -> usize
     requires { i ≤ length s.now }
     ensures { Sought s.now i b result }
 {
-    let mut k = pass(s, i, b);
-    while k < s.len() {
+    for k in pass(s, i, b)..s.len() {
         if s[k] == b {
             return k;
         }
-        k += 1;
     }
-    k
+    s.len()
 }
 
 // The place of the pattern's first occurrence. Only where its first symbol stands is more of it looked at.
-pub fn find(s: &[u8], pattern: &[u8]) -> Found
+pub fn find(s: &[u8], pattern: &[u8]) -> Option<usize>
     ensures { Finds s.now result (found pattern.now s.now) }
 {
     let first = symbol(pattern, 0);
     let mut i = 0;
+    // The step varies: the search goes on where the first symbol stands next.
     while i < s.len() {
         if starts_with(&s[i..], pattern) {
-            return Found::At(i);
+            return Some(i);
         }
         i = seek(s, i + 1, first);
     }
-    Found::Nothing
+    None
 }
 
 // The place of its first occurrence from `start` on.
-pub fn find_from(s: &[u8], start: usize, pattern: &[u8]) -> Found
+pub fn find_from(s: &[u8], start: usize, pattern: &[u8]) -> Option<usize>
     requires { start ≤ length s.now }
     ensures { Finds s.now result (found pattern.now (drop start s.now)) }
 {
-    let Found::At(k) = find(&s[start..], pattern) else {
-        return Found::Nothing;
-    };
-    Found::At(start + k)
+    let k = find(&s[start..], pattern)?;
+    Some(start + k)
 }
 
 // How many symbols stand before its first occurrence: all of them, where there is none.
 pub fn gap(s: &[u8], pattern: &[u8]) -> usize
     ensures { Gap pattern.now s.now result }
 {
-    let Found::At(k) = find(s, pattern) else {
-        return s.len();
-    };
-    k
+    find(s, pattern).unwrap_or(s.len())
 }
 
 // Whether the pattern occurs.
 pub fn contains(s: &[u8], pattern: &[u8]) -> bool
     ensures { result ≡ occurs pattern.now s.now }
 {
-    let Found::At(_) = find(s, pattern) else {
-        return false;
-    };
-    true
+    find(s, pattern).is_some()
 }
 
 // The symbol at a place, or 0 past the end.
 pub fn symbol(s: &[u8], i: usize) -> u8
     ensures { result ≡ get_or s.now i 0 }
 {
-    if i < s.len() {
-        return s[i];
-    }
-    0
+    s.get(i).copied().unwrap_or(0)
 }
 
 // The symbol before a place, or 0 at the start.
 pub fn symbol_before(s: &[u8], i: usize) -> u8
     ensures { result ≡ get_or (0 ∷ s.now) i 0 }
 {
-    if i == 0 {
-        return 0;
-    }
-    symbol(s, i - 1)
+    i.checked_sub(1).map_or(0, |k| symbol(s, k))
 }

@@ -1,16 +1,9 @@
-// Classes of symbols, and a symbol as a number. Each is one expression with no branch; `is_in` chooses among them.
-ghost use Rattle.std.specs.Prelude.{◌≡◌, ◌<◌};
+// Classes of symbols. Each is one expression with no branch; `is_in` chooses among them.
+ghost use Rattle.std.specs.Prelude.{◌≡◌};
 ghost use Rattle.spec.specs.Symbols.{between, blank, letter, digit, alnum, wordly, foreign, script_sign};
 ghost use Rattle.text_symbols.specs.Runs.{member};
 
 use super::Class;
-
-// A symbol as a number. A caller that asks so need not show that a byte fits.
-pub fn value(b: u8) -> usize
-    ensures { (result ≡ b) × (result < 256) }
-{
-    b as usize
-}
 
 fn is_between(low: u8, high: u8, b: u8) -> bool
     ensures { result ≡ between low high b }

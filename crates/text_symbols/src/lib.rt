@@ -5,7 +5,7 @@ mod classes;
 mod runs;
 mod spans;
 
-pub use classes::{is_alnum, is_blank, is_digit, is_letter, is_script_sign, is_word, value};
+pub use classes::{is_alnum, is_blank, is_digit, is_letter, is_script_sign, is_word};
 pub use runs::{all_in, run_end, run_start};
 pub use spans::{skip_end, trim};
 

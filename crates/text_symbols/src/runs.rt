@@ -12,14 +12,12 @@ pub fn run_end(s: &[u8], start: usize, class: Class) -> usize
     requires { start ≤ length s.now }
     ensures { AheadTo s.now start result (drop_while (member class) (drop start s.now)) }
 {
-    let mut i = start;
-    while i < s.len() {
+    for i in start..s.len() {
         if !is_in(class, s[i]) {
             return i;
         }
-        i += 1;
     }
-    i
+    s.len()
 }
 
 // Where the run begins that ends at `end`.
@@ -27,14 +25,12 @@ pub fn run_start(s: &[u8], end: usize, class: Class) -> usize
     requires { end ≤ length s.now }
     ensures { BackTo s.now end result (drop_while (member class) (before s.now end)) }
 {
-    let mut i = end;
-    while 0 < i {
-        if !is_in(class, s[i - 1]) {
-            return i;
+    for i in (0..end).rev() {
+        if !is_in(class, s[i]) {
+            return i + 1;
         }
-        i -= 1;
     }
-    i
+    0
 }
 
 // Whether all of the text is of the class.

@@ -1,38 +1,40 @@
 -- Thin spaces: what the code's searches say of the text since the last one, and the turns of the loop.
 --     thinned    what is written from place i on, with the last thin space before `start`
 -- Assumes nothing.
-use Rattle.std.specs.Prelude.{◌≡◌, refl, Bool, true, false, not, cond, ◌&&◌, ◌||◌, ℕ, zero, suc, ◌+◌, ◌-◌, ◌≤◌, ◌<◌, ltb, length, take}
-use Rattle.std.proofs.Common.{sym, ap₂, ◌∙◌, not-suc-le-zero, length-take, drop_of_length-le, get_or-drop, lt-ltb}
+use Rattle.std.specs.Prelude.{◌≡◌, refl, Bool, true, false, not, cond, ◌&&◌, ◌||◌, ℕ, zero, suc, ◌+◌, ◌-◌, ◌≤◌, ◌<◌, eqb, ltb, length, take}
+use Rattle.std.proofs.Common.{sym, subst, ap₂, ◌∙◌, not-suc-le-zero, length-take, drop_of_length-le, get_or-drop, lt-ltb}
 use Rattle.std.proofs.Math.Path.{ap}
+use Rattle.std.specs.List.{list_any}
+use lib.Pointwise.{pointwise}
 use mathlib.Core.List.{List, [], ◌∷◌, ◌++◌, reverse, reverse-reverse}
 use native.Mathlib.Omega.{arith}
 use Rattle.std.proofs.Math.ListN.{get_or, drop, length-drop}
 use Rattle.std.proofs.lemmas.List.{length-reverse}
-use Rattle.spec.specs.Symbols.{bytes, is, letter, head, empty, until, drop_while, starts}
+use Rattle.spec.specs.Symbols.{bytes, is, same, letter, head, empty, until, drop_while, starts}
 use Rattle.spec.specs.Finish.{atom_commands, one_of, spacing_command, spacing, gap_from, gap, thin_spaces, drop_thin_space_after_commands}
 use Rattle.spec.specs.Laws.Symbols.{drop-step, starts-long, reverse-drop}
-use Rattle.text_symbols.specs.Parts.{part, length_part, rest_part, get_or-before, sub_part}
-use Rattle.text_symbols.specs.Places.{before, before-all, before-step, length_before, AheadTo, BackTo, before-next, head-before}
+use Rattle.text_symbols.specs.Parts.{part, length_part, rest_part, sub_part}
+use Rattle.text_symbols.specs.Places.{before, before-all, before-step, length_before, AheadTo, BackTo, before-next}
 use Rattle.text_search.specs.Search.{until-drop}
-use Rattle.text.specs.Writer.{Regions, Appended, appended-part}
+use Rattle.text.specs.declared.writer.Writer.{Writer}
+use Rattle.text.specs.Writer.{Regions, Appended, appended-part, appended-long}
 use Rattle.text.specs.Sweep.{rest_from}
-use Rattle.text.specs.Filling.{Filling, filling-more, filling-symbol}
+use Rattle.text.specs.Filling.{Filling, filling-none, filling-all, filling-more, filling-symbol}
+
+-- ---- a command that sets an atom
+pointwise-same : (a b : List ℕ) → pointwise eqb a b ≡ same a b
+pointwise-same [] [] = refl
+pointwise-same [] (y ∷ b) = refl
+pointwise-same (x ∷ a) [] = refl
+pointwise-same (x ∷ a) (y ∷ b) = ap (λ t. eqb x y && t) (pointwise-same a b)
+
+pub listed-same : (l : List (List ℕ)) (w : List ℕ) → list_any (λ x. pointwise eqb x w) l ≡ one_of l w
+listed-same [] w = refl
+listed-same (x ∷ l) w = ap₂ ◌||◌ (pointwise-same x w) (listed-same l w)
 
 -- ---- a command with its own spacing
 abbrev pub is_argument : List ℕ → Bool
 is_argument tail = empty tail || (is "{" (head tail) && is "}" (head (reverse tail)))
-
-pub argument-none : (s : List ℕ) → length s ≡ 0 → is_argument s ≡ true
-argument-none [] e = refl
-argument-none (x ∷ s) e = absurd (omega arith)
-
-pub argument-some : (s : List ℕ) → (length s ≡ 0 → ⊥) → is "{" (get_or s 0 0) && is "}" (get_or s (length s - 1) 0) ≡ is_argument s
-argument-some [] e = absurd (e refl)
-argument-some (x ∷ s) e =
-    ap (λ y. is "{" x && is "}" y)
-    (get_or-before (x ∷ s) (length (x ∷ s)) e
-    ∙ sym (head-before (x ∷ s) (length (x ∷ s)) (omega arith))
-    ∙ ap head (before-all (x ∷ s)))
 
 word_some : (s : List ℕ) (end : ℕ) → end ≤ length s → not (empty (take end s)) ≡ ltb 0 end
 word_some s zero h = refl
@@ -67,9 +69,6 @@ module _ {s : List ℕ} {r : ℕ} (last : BackTo s (length s) r (drop_while (λ 
       turned : (b : Bool) → cond b [] (bytes "\\;") ≡ gap_if (not b)
       turned true = refl
       turned false = refl
-
-  pub gap-none : r ≡ 0 → gap (reverse s) ≡ gap_if true
-  gap-none e = ap (gap_from (reverse s)) (back ∙ ap (before s) e)
 
 -- ---- the loop
 unfoldable pub thinned : List ℕ → ℕ → ℕ → List ℕ
@@ -120,17 +119,45 @@ module _ (s : List ℕ) (start i : ℕ) (order : start ≤ i) (within : i < leng
       ∙ thin-symbol p (get_or s i 0) (drop (i + 1) s) (ap (starts (bytes "\\;")) (sym (drop-step s i within)) ∙ e)
       ∙ ap (λ q. get_or s i 0 ∷ thin_spaces 0 q (drop (i + 1) s)) (sym one)
 
--- ---- a turn of the loop
+pub gap-few : (keeps : Bool) → length (gap_if keeps) ≤ 2
+gap-few true = omega arith
+gap-few false = omega arith
+
+-- ---- the loop stands at place i, with the last thin space before `start`
+pub record Thinning (w₀ w : List ℕ) (from n : ℕ) (o₀ o : Writer) (start i : ℕ) : Type 0 where
+  pub long : length w ≡ length w₀
+  pub within : i ≤ n
+  pub order : start ≤ i
+  pub few : o.count ≤ o₀.count + i
+  pub filling : Filling w₀ w o₀ o (thinned (part from n w₀) start i) (drop_thin_space_after_commands (part from n w₀))
+
+pub thinning-none : (w : List ℕ) (from n : ℕ) (o : Writer) → Thinning w w from n o o 0 0
+thinning-none w from n o =
+    let s = part from n w in
+    record {
+      long = refl;
+      within = omega arith;
+      order = omega arith;
+      few = omega arith;
+      filling = subst (λ r. Filling w w o o r (drop_thin_space_after_commands s)) (sym (thinned-first s)) (filling-none w o (drop_thin_space_after_commands s));
+    }
+
+pub thinning-all :
+    {w₀ w : List ℕ} {from n : ℕ} {o₀ o : Writer} {start i : ℕ} → Regions w₀ from n o₀ → Thinning w₀ w from n o₀ o start i → n ≤ i
+    → Appended w₀ w o₀ o (drop_thin_space_after_commands (part from n w₀))
+thinning-all {w₀} {from = from} {n} {start = start} {i} regions t done =
+    let g = length_part from n w₀ regions.source in filling-all t.filling (thinned-end (part from n w₀) start i (omega arith))
+
+-- a turn of the loop
 module _
-    {w₀ w : List ℕ} {from n to cap count₀ count start i : ℕ} {whole : List ℕ}
-    (regions : Regions w₀ from n to cap count₀) (filling : Filling w₀ w to cap count₀ count (thinned (part from n w₀) start i) whole)
-    (order : start ≤ i) (more : i < n)
+    {w₀ w : List ℕ} {from n : ℕ} {o₀ o : Writer} {start i : ℕ}
+    (regions : Regions w₀ from n o₀) (thinning : Thinning w₀ w from n o₀ o start i) (more : i < n)
   where
     inside-i : i < length (part from n w₀)
     inside-i = let l = length_part from n w₀ regions.source in omega arith
 
     here : rest_from from n i w ≡ drop i (part from n w₀)
-    here = rest_part from n i w ∙ ap (drop i) (appended-part filling.appended from n regions.apart)
+    here = rest_part from n i w ∙ ap (drop i) (appended-part thinning.filling.appended from n regions.apart)
 
     module _ {b : Bool} (test : b ≡ starts (bytes "\\;") (rest_from from n i w)) where
       pub gap-fits : b ≡ true → i + 2 ≤ n
@@ -140,25 +167,36 @@ module _
           omega arith
 
       pub gap_more :
-          (keeps : Bool) {w' : List ℕ} {count' : ℕ} → b ≡ true → gap (reverse (part (from + start) (from + i - (from + start)) w)) ≡ gap_if keeps
-          → Appended w w' to cap count count' (gap_if keeps)
-          → Filling w₀ w' to cap count₀ count' (thinned (part from n w₀) (i + 2) (i + 2)) whole
+          (keeps : Bool) {w' : List ℕ} {o' : Writer} → b ≡ true → gap (reverse (part (from + start) (from + i - (from + start)) w)) ≡ gap_if keeps
+          → Appended w w' o o' (gap_if keeps)
+          → Thinning w₀ w' from n o₀ o' (i + 2) (i + 2)
       gap_more keeps t e a =
-          let k : from + i - (from + start) ≡ i - start = omega arith in
+          let ordered = thinning.order in
+          let m : from + i - (from + start) ≡ i - start = omega arith in
           let since : part (from + start) (from + i - (from + start)) w ≡ part start (i - start) (part from n w₀) =
-          ap (λ m. part (from + start) m w) k ∙ sub_part from n start (i - start) w (omega arith)
-          ∙ ap (λ s. part start (i - start) s) (appended-part filling.appended from n regions.apart)
+          ap (λ k. part (from + start) k w) m ∙ sub_part from n start (i - start) w (omega arith)
+          ∙ ap (λ s. part start (i - start) s) (appended-part thinning.filling.appended from n regions.apart)
           in
-          filling-more filling a
-          (thinned-gap (part from n w₀) start i order inside-i (ap (starts (bytes "\\;")) (sym here) ∙ sym test ∙ t)
-          ∙ ap (λ g. g ++ thinned (part from n w₀) (i + 2) (i + 2)) (ap (λ s. gap (reverse s)) (sym since) ∙ e))
+          let k = a.counted in let few = gap-few keeps in let c = thinning.few in
+          record {
+            long = appended-long a ∙ thinning.long;
+            within = gap-fits t;
+            order = omega arith;
+            few = omega arith;
+            filling = filling-more thinning.filling a
+                (thinned-gap (part from n w₀) start i thinning.order inside-i (ap (starts (bytes "\\;")) (sym here) ∙ sym test ∙ t)
+                ∙ ap (λ g. g ++ thinned (part from n w₀) (i + 2) (i + 2)) (ap (λ s. gap (reverse s)) (sym since) ∙ e));
+          }
 
-      pub symbol-more : {w' : List ℕ} {count' : ℕ} → b ≡ false → Appended w w' to cap count count' (get_or w (from + i) 0 ∷ []) → Filling w₀ w' to cap count₀ count' (thinned (part from n w₀) start (i + 1)) whole
+      pub symbol-more : {w' : List ℕ} {o' : Writer} → b ≡ false → Appended w w' o o' (get_or w (from + i) 0 ∷ []) → Thinning w₀ w' from n o₀ o' start (i + 1)
       symbol-more t a =
-          filling-more filling a
-          (thinned-symbol (part from n w₀) start i order inside-i (ap (starts (bytes "\\;")) (sym here) ∙ sym test ∙ t)
-          ∙ ap (λ x. x ∷ thinned (part from n w₀) start (i + 1)) (sym (filling-symbol filling from n regions.apart i more)))
-
-pub gap-few : (keeps : Bool) → length (gap_if keeps) ≤ 2
-gap-few true = omega arith
-gap-few false = omega arith
+          let k = a.counted in let c = thinning.few in let ordered = thinning.order in
+          record {
+            long = appended-long a ∙ thinning.long;
+            within = omega arith;
+            order = omega arith;
+            few = omega arith;
+            filling = filling-more thinning.filling a
+                (thinned-symbol (part from n w₀) start i thinning.order inside-i (ap (starts (bytes "\\;")) (sym here) ∙ sym test ∙ t)
+                ∙ ap (λ x. x ∷ thinned (part from n w₀) start (i + 1)) (sym (filling-symbol thinning.filling from n regions.apart i more)));
+          }

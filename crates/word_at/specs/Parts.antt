@@ -3,32 +3,33 @@
 --     FindsWord    an equation with the definition, and the part lies in its slice
 --     PartOf       one slice is a part of another: it lies there in memory, and holds what stands there
 --     HandsBack    the part of the formula, or of the table
-use Rattle.std.specs.Prelude.{◌≡◌, List, ℕ, ◌+◌, ◌-◌, ◌≤◌, length, take, drop}
-use Rattle.std.proofs.Common.{subst}
+use Rattle.std.specs.Prelude.{◌≡◌, List, ℕ, ◌+◌, ◌-◌, take, drop, Result as Either, Ok, Err}
 use Rattle.std.specs.Borrow.{Bor}
 use Rattle.spec.specs.Result.{Result, passed, refused}
 use Rattle.spec.specs.WordAt.{WordPart, in_formula, in_table}
+use Rattle.text_symbols.specs.Trim.{Within}
 use Rattle.text.specs.Stage.{number}
+use Rattle.text.specs.declared.Refusal.{Refusal}
 use Rattle.word_at.specs.declared.WordPlace.{WordPlace}
-use Rattle.word_at.specs.declared.WordPlace.TheVariants.{InFormula, InTable, Refused}
+use Rattle.word_at.specs.declared.WordPlace.TheVariants.{InFormula, InTable}
 
-abbrev pub meaning : WordPlace → Result WordPart
-meaning (InFormula start end) = passed (in_formula start (end - start))
-meaning (InTable start end) = passed (in_table start (end - start))
-meaning (Refused why) = refused (number why)
+-- where a word was found, or why there is none
+abbrev pub Found : Type 0
+Found = Either WordPlace Refusal
 
-abbrev pub Inside : List ℕ → List ℕ → WordPlace → Type 0
-Inside formula table (InFormula start end) = (start ≤ end) × (end ≤ length formula)
-Inside formula table (InTable start end) = (start ≤ end) × (end ≤ length table)
-Inside formula table (Refused why) = Unit {0}
+abbrev pub meaning : Found → Result WordPart
+meaning (Ok (InFormula w)) = passed (in_formula w.start (w.end - w.start))
+meaning (Ok (InTable w)) = passed (in_table w.start (w.end - w.start))
+meaning (Err why) = refused (number why)
 
-pub record FindsWord (formula table : List ℕ) (part : Result WordPart) (w : WordPlace) : Type 0 where
+abbrev pub Inside : List ℕ → List ℕ → Found → Type 0
+Inside formula table (Ok (InFormula w)) = Within formula w
+Inside formula table (Ok (InTable w)) = Within table w
+Inside formula table (Err why) = Unit {0}
+
+pub record FindsWord (formula table : List ℕ) (part : Result WordPart) (w : Found) : Type 0 where
   pub answers : meaning w ≡ part
   pub lies : Inside formula table w
-
--- the same of what a match finds
-pub found_at : {formula table : List ℕ} {part : Result WordPart} {w v : WordPlace} → FindsWord formula table part w → w ≡ v → FindsWord formula table part v
-found_at {formula} {table} {part} f e = subst (FindsWord formula table part) e f
 
 -- the n bytes of s that begin at a place: no copy is a part, since it lies elsewhere
 pub record PartOf (s : Bor (List ℕ)) (at n : ℕ) (r : Bor (List ℕ)) : Type 0 where

@@ -18,10 +18,9 @@ use Rattle.spec.specs.WordAt.{WordPart, in_formula, in_table, part_bytes, word_s
 use Rattle.spec.specs.Laws.Booleans.{or-neither}
 use Rattle.spec.specs.Laws.Names.{same-eq}
 use Rattle.spec.specs.Laws.Order.{named-same, Distinct}
-use Rattle.table.specs.Reading.{first_place, read_at, read-end, length-latex, definition_at, name_at}
+use Rattle.table.specs.Reading.{Reading, first_place, read_at, read-end, length-latex, definition_at, name_at}
 use Rattle.table.specs.Listed.{listed, listed_by, listed_at, listed-records, Heads, heads-at}
-use Rattle.table.specs.declared.Reading.{Reading}
-use Rattle.table.specs.declared.Reading.TheVariants.{Whole, End, Unreadable}
+use Rattle.std.specs.Prelude.{Some, None, Ok, Err}
 use Rattle.table_names.specs.Named.{named_here, named-behind}
 use Rattle.stage_laws.specs.SameRecords.{SameRecords, SameLimit}
 use Rattle.stage_laws.proofs.SameLimits.{form-limit, wide-limit}
@@ -79,7 +78,7 @@ module _ (s name : List ℕ) where
     where
       go : (x : Reading) → read_at s at ≡ x → ((next : ℕ) → length s ≤ next + k → LatexAt s (latex_place (form_of s) name next (listed s next)) (latex_for name (listed s next)))
           → LatexAt s (latex_place (form_of s) name at (listed s at)) (latex_for name (listed s at))
-      go (Whole r) e later = by (same name (name_at s r)) refl
+      go (Ok (Some r)) e later = by (same name (name_at s r)) refl
         where
           here : Heads s at r
           here = heads-at e
@@ -90,8 +89,8 @@ module _ (s name : List ℕ) where
           by false f =
               let b = here.behind in let l = here.lies in
               rw (named-behind here name f, here.first, latex-for-behind name (definition_at s r) (listed s r.next) f) (later r.next (omega arith))
-      go End e later = placed-none at (listed_at s at ∙ ap (listed_by s) e)
-      go Unreadable e later = placed-none at (listed_at s at ∙ ap (listed_by s) e)
+      go (Ok None) e later = placed-none at (listed_at s at ∙ ap (listed_by s) e)
+      go (Err u) e later = placed-none at (listed_at s at ∙ ap (listed_by s) e)
 
   pub placed-records : (ds : List Definition) → records s ≡ some ds → LatexAt s (latex_place (form_of s) name (start (form_of s)) ds) (latex_for name ds)
   placed-records ds e = rw (← listed-records s ds e) (placed_at (length s) (first_place s) (omega arith))

@@ -5,7 +5,7 @@
 
 ghost use Rattle.std.specs.Prelude.{◌≤◌};
 
-use case_input::Next;
+use case_input::Case;
 use std::io;
 use std::io::Read;
 
@@ -20,26 +20,22 @@ const TABLE: usize = 32_769;
 fn main(rt: HostRuntime) -> io::Result<()> {
     let mut cases = rt.reader();
     for _ in 0..CASES {
-        if !answer_next(&rt, &mut cases)? {
+        let Some(case) = case_input::next_case(&mut cases, FORMULA, TABLE)? else {
             return Ok(());
-        }
+        };
+        answer(&rt, &mut cases, case)?;
     }
     Ok(())
 }
 
-// Whether there was a case.
-fn answer_next<R: Read>(rt: &impl Print, cases: &mut R) -> io::Result<bool> {
-    let Next::Case(n, m) = case_input::next_case(cases, FORMULA, TABLE)? else {
-        return Ok(false);
-    };
-    answer(rt, cases, n, m)?;
-    Ok(true)
-}
-
 // What stands behind the bytes that are read must not count, so it is letters, with which a word would go on.
-fn answer<R: Read>(rt: &impl Print, cases: &mut R, n: usize, m: usize) -> io::Result<()>
-    requires { (n ≤ 4097) × (m ≤ 32769) }
+fn answer<R: Read>(rt: &impl Print, cases: &mut R, case: Case) -> io::Result<()>
+    requires { (case.first ≤ 4097) × (case.second ≤ 32769) }
 {
+    let Case {
+        first: n,
+        second: m,
+    } = case;
     let mut formula = [b'a'; FORMULA];
     let mut table = [b'a'; TABLE];
     read_and_show(rt, cases, &mut formula[..n], &mut table[..m])

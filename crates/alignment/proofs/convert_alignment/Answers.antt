@@ -1,67 +1,35 @@
 -- `alignment::convert_alignment` meets its contract, by what the text has. Assumes nothing.
-use Rattle.alignment.specs.Aligned.{lined_to, align-some, align-breaks, align-none, lined-whole}
+use Rattle.alignment.specs.Aligned.{lined_to, whole-test, align-some, align-breaks, align-none, lined-whole}
 use Rattle.spec.specs.Finish.{has_alignment, has_line_breaks, convert_alignment}
-use Rattle.spec.specs.Matches.{any_match}
-use Rattle.spec.specs.Laws.Booleans.{or_left, or_right}
-use Rattle.text_symbols.specs.Parts.{part, length_part, whole_part}
-use Rattle.text.specs.Stage.{placed-fits, placed-low, placed-regions, staged-same, staged-written}
+use Rattle.text_symbols.specs.Parts.{part, length_part}
+use Rattle.text.specs.Stage.{Staged, placed-regions, staged-same, staged-written}
 use Rattle.text.specs.Written.{appended-written}
-use Rattle.text.specs.Untouched.{untouched-matched}
-use mathlib.Core.Path.{refl, sym, ap, ◌∙◌}
-use mathlib.Core.Bool.{false}
-use mathlib.Core.List.{[], ◌∷◌}
-use native.Mathlib.Omega.{arith}
+use Rattle.spec.specs.Result.{stage}
+use mathlib.Core.Path.{refl, sym, ◌∙◌, subst}
 use Rattle.alignment.proofs.convert_alignment.Goals as goal
 
-pub overflow_add-end : goal.overflow_add-end
-overflow_add-end c =
-    let f = placed-fits c.requires c.in-Text.is in omega arith
+pub returns-then-has_alignment-clause-staged : goal.returns-then-has_alignment-clause-staged
+returns-then-has_alignment-clause-staged c =
+    let place = c.in_ok-source.source in
+    let has = whole-test has_alignment place.at place.n c.args.work.now c.has_alignment.ensures c.if-has_alignment.true in
+    staged-written c.requires c.in_ok-source.was convert_alignment (appended-written (rw c.new-out.ensures at c.put_aligned.ensures.appended) refl (placed-regions c.requires c.in_ok-source.was).region)
+    (align-some (part place.at place.n c.args.work.now) has) c.finished.ensures
 
-pub overflow_sub-to : goal.overflow_sub-to
-overflow_sub-to c =
-    let g = placed-low c.requires c.in-Text.is in omega arith
+pub returns-then-has_line_breaks-clause-staged : goal.returns-then-has_line_breaks-clause-staged
+returns-then-has_line_breaks-clause-staged c =
+    let place = c.in_ok-source.source in
+    let s = part place.at place.n c.args.work.now in
+    let regions = placed-regions c.requires c.in_ok-source.was in
+    let plain = whole-test has_alignment place.at place.n c.args.work.now c.has_alignment.ensures c.if-has_alignment.false in
+    let breaks = whole-test has_line_breaks place.at place.n c.args.work.now c.has_line_breaks.ensures c.if-has_line_breaks.true in
+    let whole = lined_to s place.n 0 in
+    staged-written c.requires c.in_ok-source.was {t = whole} convert_alignment (appended-written {out = whole} (rw c.new-out.ensures at c.put_lines.ensures.appended) refl regions.region)
+    (align-breaks s plain breaks ∙ sym (lined-whole s place.n (length_part place.at place.n c.args.work.now regions.source))) c.finished-then-has_line_breaks.ensures
 
-pub slice_bounds-has_alignment-end : goal.slice_bounds-has_alignment-end
-slice_bounds-has_alignment-end c =
-    let f = placed-fits c.requires c.in-Text.is in omega arith
-
-pub put_aligned-count-requires : goal.put_aligned-count-requires
-put_aligned-count-requires c =
-    placed-regions c.requires c.in-Text.is
-
-pub returns-then-has_alignment : goal.returns-then-has_alignment
-returns-then-has_alignment c =
-    let text = part c.in-Text.from c.in-Text.n c.args.work.now in
-    let has = ap has_alignment (sym (whole_part c.in-Text.from c.in-Text.n c.args.work.now)) ∙ sym c.has_alignment.ensures ∙ c.if-has_alignment.true in
-    let regions = placed-regions c.requires c.in-Text.is in record { staged = staged-written c.requires c.in-Text.is convert_alignment (appended-written c.put_aligned-count.ensures.appended regions.region) (align-some text has) c.finished.ensures; untouched = untouched-matched c.in-Text.is (or_left (any_match (has_line_breaks ∷ []) text) has) }
-
-pub slice_bounds-has_line_breaks-end : goal.slice_bounds-has_line_breaks-end
-slice_bounds-has_line_breaks-end c =
-    let f = placed-fits c.requires c.in-Text.is in omega arith
-
-pub put_lines-count-requires : goal.put_lines-count-requires
-put_lines-count-requires c =
-    record { regions = placed-regions c.requires c.in-Text.is; start_le_stop = (omega arith, omega arith) }
-
-pub returns-then-has_line_breaks : goal.returns-then-has_line_breaks
-returns-then-has_line_breaks c =
-    let w = c.args.work.now in
-    let text = part c.in-Text.from c.in-Text.n w in
-    let same = whole_part c.in-Text.from c.in-Text.n w in
-    let regions = placed-regions c.requires c.in-Text.is in
-    let plain = ap has_alignment (sym same) ∙ sym c.has_alignment.ensures ∙ c.if-has_alignment.false in
-    let has = ap has_line_breaks (sym same) ∙ sym c.has_line_breaks.ensures ∙ c.if-has_line_breaks.true in
-    let whole = lined_to text c.in-Text.n 0 in record {
-      staged = staged-written c.requires c.in-Text.is {t = whole} convert_alignment (appended-written {out = whole} c.put_lines-count.ensures.appended regions.region)
-          (align-breaks text plain has ∙ sym (lined-whole text c.in-Text.n (length_part c.in-Text.from c.in-Text.n w regions.source))) c.finished-then-has_line_breaks.ensures;
-      untouched = untouched-matched c.in-Text.is (or_right (has_alignment text) (any_match (has_line_breaks ∷ []) text) (or_left false has));
-    }
-
-pub returns : goal.returns
-returns c =
-    let w = c.args.work.now in
-    let text = part c.in-Text.from c.in-Text.n w in
-    let same = whole_part c.in-Text.from c.in-Text.n w in
-    let plain = ap has_alignment (sym same) ∙ sym c.has_alignment.ensures ∙ c.if-has_alignment.false in
-    let smooth = ap has_line_breaks (sym same) ∙ sym c.has_line_breaks.ensures ∙ c.if-has_line_breaks.false in
-    record { staged = staged-same c.requires c.in-Text.is convert_alignment (align-none text plain smooth); untouched = record { stays = λ none. (refl, sym c.in-Text.is) } }
+pub returns-clause-staged : goal.returns-clause-staged
+returns-clause-staged c =
+    let place = c.in_ok-source.source in
+    let plain = whole-test has_alignment place.at place.n c.args.work.now c.has_alignment.ensures c.if-has_alignment.false in
+    let smooth = whole-test has_line_breaks place.at place.n c.args.work.now c.has_line_breaks.ensures c.if-has_line_breaks.false in
+    subst (λ p. Staged c.args.work.now c.args.work.now c.args.text p (stage convert_alignment)) (sym c.in_ok-source.was)
+    (staged-same c.requires c.in_ok-source.was convert_alignment (align-none (part place.at place.n c.args.work.now) plain smooth))

@@ -4,8 +4,8 @@ use Rattle.entry_ends.specs.Answer.{meaning}
 use Rattle.answer_codes.specs.Codes.{refusal-coded}
 use Rattle.answer_codes.proofs.answer_code.Goals as goal
 
-pub returns-in-Done : goal.returns-in-Done
-returns-in-Done c = record { answer_value = ap meaning c.in-Done.is; count_after = λ some. absurd (some refl) }
+pub returns-in-Ok : goal.returns-in-Ok
+returns-in-Ok c = record { answer_value = ap meaning c.in-Ok.is; count_after = λ some. absurd (some refl) }
 
-pub returns-in-Refused : goal.returns-in-Refused
-returns-in-Refused c = record { answer_value = ap meaning c.in-Refused.is ∙ refusal-coded c.in-Refused.why 0 c.number.ensures; count_after = λ some. refl }
+pub returns-in-Err : goal.returns-in-Err
+returns-in-Err c = record { answer_value = ap meaning c.in-Err.is ∙ refusal-coded c.in-Err.why 0 c.from.ensures; count_after = λ some. refl }

@@ -2,12 +2,11 @@
 use Rattle.text_search.specs.Half.{half_work}
 use Rattle.attach.specs.Weight.{commas}
 use Rattle.text.specs.Sweep.{Sweeping}
-use mathlib.Core.Path.{◌≡◌}
-use Prim.Native.Nat.{◌+◌, ◌-◌}
+use Prim.Native.Nat.{◌-◌}
 use Rattle.attach.proofs.put_subscript.Given as goal
 
 abbrev pub invariant-loop-i : goal.invariant-loop-i
-invariant-loop-i l = (l.end ≡ l.from + l.n) × Sweeping commas l.initial.work l.work l.from l.n l.to half_work l.count l.written l.i
+invariant-loop-i l = Sweeping commas l.initial.work l.work l.from l.n l.initial.written l.written l.i
 
 abbrev pub decreases-loop-i : goal.decreases-loop-i
 decreases-loop-i l = l.n - l.i

@@ -1,7 +1,6 @@
 -- `call_commas::find_comma` meets its contract. The loop's invariant: no comma passed is at the top level, and the rest, as it is seen, decides. Assumes nothing.
 use Rattle.call_commas.specs.Searched.{searched-none, searched-letter, searched-quote, searched-here, searched-more, searched-end}
 use mathlib.Core.Path.{refl}
-use Prim.Native.Nat.{◌-◌}
 use native.Mathlib.Omega.{arith}
 use borrow.Author.Tests.{eq-eqb, ne_eqb}
 use Rattle.call_commas.proofs.find_comma.Goals as goal

@@ -1,12 +1,8 @@
 -- `call_commas::find_unescaped_comma` meets its contract. The loop's invariant: every comma passed is escaped, and the rest decides. Assumes nothing.
 use Rattle.spec.specs.Closing.{unescaped_behind}
-use lib.ListN.{length, drop}
+use lib.ListN.{drop}
 use mathlib.Core.Path.{◌≡◌}
-use Prim.Native.Nat.{◌-◌, ◌≤◌}
 use Rattle.call_commas.proofs.find_unescaped_comma.Given as goal
 
 abbrev pub invariant-loop-i : goal.invariant-loop-i
-invariant-loop-i l = (l.i ≤ length l.s) × (unescaped_behind 0 l.s ≡ unescaped_behind l.previous (drop l.i l.s))
-
-abbrev pub decreases-loop-i : goal.decreases-loop-i
-decreases-loop-i l = length l.s - l.i
+invariant-loop-i l = unescaped_behind 0 l.s ≡ unescaped_behind l.previous (drop l.i l.s)

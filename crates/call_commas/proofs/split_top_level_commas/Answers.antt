@@ -1,11 +1,6 @@
 -- `call_commas::split_top_level_commas` meets its contract, by the comma search in the rest of the text. Assumes nothing.
 use Rattle.call_commas.specs.Split.{seen-splits-at, seen-splits-end}
-use lib.ListN.{length-take, length-drop}
-use native.Mathlib.Omega.{arith}
 use Rattle.call_commas.proofs.split_top_level_commas.Goals as goal
-
-pub find_comma-requires : goal.find_comma-requires
-find_comma-requires c = simp (length-take, length-drop) (omega arith)
 
 pub returns-in_default : goal.returns-in_default
 returns-in_default c =
@@ -14,9 +9,4 @@ returns-in_default c =
 -- the comma that has been found ends the part
 pub returns : goal.returns
 returns c =
-    let both = seen-splits-at c.requires.start_in_bounds.0 c.requires.sees c.find_comma.ensures c.in-At.is in record { splits = both.0; sees_next = both.1 }
-
-pub overflow_add-end : goal.overflow_add-end
-overflow_add-end c =
-    let long = c.requires.sees.as_long in let w = (returns c).splits.within in
-    omega arith
+    let both = seen-splits-at c.requires.start_in_bounds.0 c.requires.sees c.find_comma.ensures c.in-Some.is in record { splits = both.0; sees_next = both.1 }

@@ -1,24 +1,6 @@
 -- `call_rewriting::put_call` meets its contract: three appends in a row are one. Assumes nothing.
-use Rattle.text.specs.Writer.{room-left, appended-more, appended-part, appended-long}
-use Rattle.text_symbols.specs.Parts.{length_part}
-use lib.ListN.{length}
-use native.Mathlib.Omega.{arith}
-use Prim.Native.Nat.{◌+◌}
+use Rattle.text.specs.Writer.{appended-more, appended-part}
 use Rattle.call_rewriting.proofs.put_call.Goals as goal
-
-pub copy-filled-requires : goal.copy-filled-requires
-copy-filled-requires c =
-    let a = c.put_all-opened.ensures in
-    let l = appended-long a in
-    let room = room-left (c.args.k + length c.args.right.now) a c.requires.room in
-    record { room = record { region = room.region; small = omega arith }; n_in_bounds = omega arith; apart = c.requires.apart }
-
-pub put_all-requires : goal.put_all-requires
-put_all-requires c =
-    let a = c.put_all-opened.ensures in
-    let b = c.copy-filled.ensures in
-    let n = length_part c.args.inside c.args.k c.put_all-opened.new.work (let l = appended-long a in omega arith) in
-    room-left (length c.args.right.now) b (rw n (room-left (c.args.k + length c.args.right.now) a c.requires.room))
 
 pub returns : goal.returns
 returns c =

@@ -4,4 +4,4 @@ use Rattle.cases.proofs.branch_at.Goals as goal
 
 pub returns : goal.returns
 returns c =
-    branched c.requires.start_in_bounds.0 c.split_top_level_commas-part.ensures.splits c.split_top_level_commas-part.ensures.sees_next c.trim-span.ensures
+    branched c.requires.start_in_bounds.0 c.split_top_level_commas-part.ensures.splits c.split_top_level_commas-part.ensures.sees_next c.trim.ensures

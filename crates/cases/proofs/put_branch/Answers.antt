@@ -1,15 +1,6 @@
 -- `cases::put_branch` meets its contract: one append, or two that are one. Assumes nothing.
-use Rattle.text.specs.Writer.{appended-more, appended-part, appended-long}
-use native.Mathlib.Omega.{arith}
+use Rattle.text.specs.Writer.{appended-more, appended-part}
 use Rattle.cases.proofs.put_branch.Goals as goal
-
-pub copy-requires : goal.copy-requires
-copy-requires c =
-    let a = c.put_all-parted.ensures in
-    let l = appended-long a in
-    let n = a.counted in
-    let room = c.requires.room in
-    record { room = record { region = omega arith; small = omega arith }; n_in_bounds = omega arith; apart = c.requires.apart }
 
 pub returns-then-later : goal.returns-then-later
 returns-then-later c =

@@ -11,8 +11,12 @@ use Rattle.cases.proofs.put_branches.Given as goal
 
 abbrev pub invariant-loop-start : goal.invariant-loop-start
 invariant-loop-start l =
-    (l.start ≤ l.n + 1) × (length l.work ≡ length l.initial.work) × Branching (part l.from l.n l.initial.work) l.initial.work l.work l.to most_symbols l.count l.written l.later l.start
-    × Sees (over_quotes (part l.from l.n l.initial.work)) (part l.from l.n l.initial.work) l.start l.quotes.quoted
+    record {
+      within : l.start ≤ l.n + 1;
+      long : length l.work ≡ length l.initial.work;
+      branching : Branching (part l.from l.n l.initial.work) l.initial.work l.work l.initial.written l.written l.later l.start;
+      sees : Sees (over_quotes (part l.from l.n l.initial.work)) (part l.from l.n l.initial.work) l.start l.quotes.quoted;
+    }
 
 abbrev pub decreases-loop-start : goal.decreases-loop-start
 decreases-loop-start l = l.n + 1 - l.start

@@ -10,7 +10,7 @@ use Rattle.definitions.proofs.apply_definitions.Given as goal
 
 abbrev pub invariant-loop-found : goal.invariant-loop-found
 invariant-loop-found l =
-    Reached l.table l.cursor × ((length l.work ≡ length l.initial.work) × ((ds : List Definition) → definitions l.table ≡ some ds → DefinitionsLeft l.table l.cursor ds l.extra l.initial.work l.work l.initial.done l.done))
+    Reached l.table l.cursor × ((ds : List Definition) → definitions l.table ≡ some ds → DefinitionsLeft l.table l.cursor ds l.extra l.initial.work l.work l.initial.done l.done)
 
 abbrev pub decreases-loop-found : goal.decreases-loop-found
 decreases-loop-found l = length (remaining l.table l.cursor)

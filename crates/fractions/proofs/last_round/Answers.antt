@@ -1,27 +1,14 @@
 -- `fractions::last_round` meets its contract. Assumes nothing.
+use Rattle.std.specs.Prelude.{Ok}
 use Rattle.fractions.specs.Settle.{last-unchanged, last-changed, last-barred}
+use mathlib.Core.Path.{ap, ◌∙◌}
 use Rattle.fractions.proofs.last_round.Goals as goal
 
-pub shape_of-work-in-Unchanged : goal.shape_of-work-in-Unchanged
-shape_of-work-in-Unchanged c =
-    c.next_round-round.ensures.wrote.long
+pub returns-in-Ok-None : goal.returns-in-Ok-None
+returns-in-Ok-None c = last-unchanged c.requires c.next_round.ensures (c.in-Ok-None.is ∙ ap Ok c.in-Ok-None.field-0-is)
 
-pub returns-in-Unchanged : goal.returns-in-Unchanged
-returns-in-Unchanged c =
-    last-unchanged c.requires c.next_round-round.ensures c.in-Unchanged.is
+pub returns-in-Ok-Some : goal.returns-in-Ok-Some
+returns-in-Ok-Some c = last-changed c.requires c.next_round.ensures (c.in-Ok-Some.is ∙ ap Ok c.in-Ok-Some.field-0-is)
 
-pub shape_of-work-in-Changed : goal.shape_of-work-in-Changed
-shape_of-work-in-Changed c =
-    c.next_round-round.ensures.wrote.long
-
-pub returns-in-Changed : goal.returns-in-Changed
-returns-in-Changed c =
-    last-changed c.requires c.next_round-round.ensures c.in-Changed.is
-
-pub shape_of-work-in-Barred : goal.shape_of-work-in-Barred
-shape_of-work-in-Barred c =
-    c.next_round-round.ensures.wrote.long
-
-pub returns-in-Barred : goal.returns-in-Barred
-returns-in-Barred c =
-    last-barred c.requires c.next_round-round.ensures c.in-Barred.is
+pub returns-in-Err : goal.returns-in-Err
+returns-in-Err c = last-barred c.requires c.next_round.ensures c.in-Err.is

@@ -1,45 +1,32 @@
 -- `held_stages::hold_both` meets its contract: two passes, the second over what the first has left. Assumes nothing.
-use native.Mathlib.Omega.{arith}
-use mathlib.Core.Path.{refl, sym, ap, ◌∙◌}
-use mathlib.Core.Bool.{false}
-use mathlib.Core.List.{[], ◌∷◌}
-use Rattle.spec.specs.Symbols.{bytes, contains}
+use Rattle.std.proofs.Common.{refl, false, [], ◌∷◌, arith}
 use Rattle.spec.specs.Matches.{text_opening, roman_opening}
 use Rattle.spec.specs.Laws.Booleans.{or_left}
-use Rattle.text_symbols.specs.Parts.{whole_part}
 use Rattle.text.specs.Untouched.{untouched-alike, any-parts, untouched-matched, untouched-then}
-use Rattle.held_stages.specs.Outside.{second_fits, second-low, both-none, hold-second, second-extra, both-counted}
+use Rattle.held_stages.specs.Outside.{passed-none, passed-some, both-none, hold-second, second-extra, both-counted}
 use Rattle.held_stages.proofs.hold_both.Goals as goal
 
-pub overflow_add-end : goal.overflow_add-end
-overflow_add-end c =
-    let h = second_fits c.requires c.hold_texts-first.ensures.held_from in omega arith
+pub overflow_mul-held : goal.overflow_mul-held
+overflow_mul-held c = let h = (hold-second c.requires c.hold_texts-first.ensures.held_from).small in omega arith
 
-pub slice_bounds-contains-end : goal.slice_bounds-contains-end
-slice_bounds-contains-end c =
-    let h = second_fits c.requires c.hold_texts-first.ensures.held_from in let l = c.hold_texts-first.ensures.held_from.holds.keeps.long in omega arith
+pub hold-requires-clause-hold : goal.hold-requires-clause-hold
+hold-requires-clause-hold c = hold-second c.requires c.hold_texts-first.ensures.held_from
 
-pub returns-then-not-contains : goal.returns-then-not-contains
-returns-then-not-contains c =
-    record { held_from = both-none c.requires c.hold_texts-first.ensures.held_from (sym c.contains.ensures ∙ c.if-not-contains.true); untouched = untouched-alike (λ s none. (any-parts (text_opening ∷ []) (roman_opening ∷ []) s none).0) c.hold_texts-first.ensures.untouched }
+pub returns-in_default : goal.returns-in_default
+returns-in_default c =
+    let first = c.hold_texts-first.ensures in let none = passed-none c.hold.ensures c.in_default.is in
+    rw none.0 (record {
+      held_from = both-none c.requires first.held_from none.1;
+      untouched = untouched-alike (λ s none. (any-parts (text_opening ∷ []) (roman_opening ∷ []) s none).0) first.untouched;
+    })
 
-pub overflow_sub-to : goal.overflow_sub-to
-overflow_sub-to c =
-    let h = second-low c.requires c.hold_texts-first.ensures.held_from in omega arith
-
-pub overflow_mul-texts : goal.overflow_mul-texts
-overflow_mul-texts c =
-    let h = (hold-second c.requires c.hold_texts-first.ensures.held_from).small in omega arith
-
-pub hold_out-m-requires : goal.hold_out-m-requires
-hold_out-m-requires c =
-    record { hold = hold-second c.requires c.hold_texts-first.ensures.held_from; name_len_bound = omega arith }
-
-pub overflow_sub-result : goal.overflow_sub-result
-overflow_sub-result c =
-    second-extra c.requires c.hold_texts-first.ensures.held_from c.hold_out-m.ensures
+pub overflow_sub-result-2 : goal.overflow_sub-result-2
+overflow_sub-result-2 c = second-extra c.requires c.hold_texts-first.ensures.held_from (passed-some c.hold.ensures c.in-Some.is).1
 
 pub returns : goal.returns
 returns c =
-    let first = c.hold_texts-first in
-    let opens = ap (contains (bytes "\\mathrm{")) (sym (whole_part first.result.at first.result.len _)) ∙ sym c.contains.ensures ∙ c.if-not-contains.false in record { held_from = both-counted c.requires first.ensures.held_from c.hold_out-m.ensures; untouched = untouched-then (text_opening ∷ []) (roman_opening ∷ []) first.ensures.untouched (untouched-matched refl (or_left false opens)) }
+    let first = c.hold_texts-first.ensures in let some = passed-some c.hold.ensures c.in-Some.is in
+    record {
+      held_from = both-counted c.requires first.held_from some.1;
+      untouched = untouched-then (text_opening ∷ []) (roman_opening ∷ []) first.untouched (untouched-matched refl (or_left false some.0));
+    }

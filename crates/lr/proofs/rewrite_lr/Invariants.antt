@@ -6,12 +6,12 @@ use Rattle.spec.specs.Sweep.{reached}
 use Rattle.text_symbols.specs.Parts.{part}
 use Rattle.text.specs.Sweep.{Sweeping}
 use mathlib.Core.Path.{◌≡◌}
-use Prim.Native.Nat.{◌+◌, ◌-◌}
+use Prim.Native.Nat.{◌-◌}
 use Rattle.lr.proofs.rewrite_lr.Given as goal
 
 abbrev pub invariant-loop-i : goal.invariant-loop-i
 invariant-loop-i l =
-    (l.end ≡ l.from + l.n) × Sweeping lr l.initial.work l.work l.from l.n l.to most_symbols 0 l.count l.i
+    Sweeping lr l.initial.work l.work l.from l.n l.initial.out l.out l.i
     × (reached bare_delimiter lr 0 0 (part l.from l.n l.initial.work) ≡ comes bare_delimiter lr (part l.from l.n l.initial.work) l.i)
 
 abbrev pub decreases-loop-i : goal.decreases-loop-i

@@ -1,17 +1,9 @@
 -- `name_words::convert_greek_capitals` meets its contract: its rows are those of the table. Assumes nothing.
-use mathlib.Core.Path.{refl}
 use Rattle.spec.specs.Rows.{greek_capitals}
 use Rattle.spec.specs.Words.{convert_greek_capitals}
-use Rattle.name_entry.specs.Sized.{within_none, staged-alike}
-use Rattle.name_greek.specs.Rows.{rows_of, fair_table}
+use Rattle.name_entry.specs.Sized.{staged-alike}
 use Rattle.name_tables.specs.Kinds.{rows-capital}
 use Rattle.name_words.proofs.convert_greek_capitals.Goals as goal
 
-pub apply_rows-requires : goal.apply_rows-requires
-unfolding fair_table
-apply_rows-requires c = record { ready = c.requires; fits_with_blocks = within_none c.args.text c.requires; fair = refl }
-
-pub returns : goal.returns
-unfolding rows_of
-returns c =
-    record { staged = staged-alike (convert_greek_capitals) (λ s. rows-capital greek_capitals s) c.apply_rows.ensures.staged_within.staged; untouched = c.apply_rows.ensures.untouched }
+pub returns-clause-staged : goal.returns-clause-staged
+returns-clause-staged c = staged-alike convert_greek_capitals (λ s. rows-capital greek_capitals s) c.apply_rows.ensures.staged_within.staged

@@ -2,12 +2,7 @@
 use Rattle.spec.specs.Symbols.{bytes}
 use Rattle.spec.specs.Words.{convert_sqrt}
 use Rattle.text.specs.Untouched.{untouched-contains}
-use native.Mathlib.Omega.{arith}
 use Rattle.pattern_rewriting.proofs.convert_sqrt.Goals as goal
-
-pub convert_pattern-requires : goal.convert_pattern-requires
-convert_pattern-requires c =
-    record { ready = c.requires; pattern_texts_fit = record { positive = omega arith; short = omega arith } }
 
 pub returns : goal.returns
 unfolding convert_sqrt

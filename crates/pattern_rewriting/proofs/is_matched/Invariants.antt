@@ -5,8 +5,8 @@ use Rattle.text_search.specs.Matched.{Searching}
 use Rattle.pattern_rewriting.specs.Edits.{pattern_at}
 use Rattle.pattern_rewriting.proofs.is_matched.Given as goal
 
-abbrev pub invariant-loop-at : goal.invariant-loop-at
-invariant-loop-at l = Searching (pattern_at l.kind l.pattern) l.s l.start l.i
+abbrev pub invariant-loop-i : goal.invariant-loop-i
+invariant-loop-i l = Searching (pattern_at l.rewriting.kind l.rewriting.pattern.now) l.s l.start l.i
 
-abbrev pub decreases-loop-at : goal.decreases-loop-at
-decreases-loop-at l = length l.s - l.i
+abbrev pub decreases-loop-i : goal.decreases-loop-i
+decreases-loop-i l = length l.s - l.i

@@ -1,27 +1,15 @@
 -- `pattern_rewriting::put_edit` meets its contract: three appends in a row are one. Assumes nothing.
-use Rattle.text.specs.Writer.{room-left, appended-more, appended-part, appended-long}
-use Rattle.text_symbols.specs.Parts.{length_part}
-use Prim.Native.Nat.{◌+◌}
-use native.Mathlib.Omega.{arith}
+use Rattle.text.specs.Writer.{appended-more, appended-part}
+use Prim.Native.Nat.{◌+◌, ◌-◌}
+use mathlib.Core.Path.{◌≡◌}
+use Rattle.pattern_rewriting.specs.Edits.{ending}
 use Rattle.pattern_rewriting.proofs.put_edit.Goals as goal
-
-pub copy-filled-requires : goal.copy-filled-requires
-copy-filled-requires c =
-    let a = c.put_all-opened.ensures in
-    let l = appended-long a in
-    let room = room-left (c.args.k + 1) a c.requires.room in
-    record { room = record { region = room.region; small = omega arith }; n_in_bounds = omega arith; apart = c.requires.apart }
-
-pub put_ending-requires : goal.put_ending-requires
-put_ending-requires c =
-    let a = c.put_all-opened.ensures in
-    let b = c.copy-filled.ensures in
-    let n = length_part c.args.inside c.args.k c.put_all-opened.new.work (let l = appended-long a in omega arith) in
-    room-left 1 b (rw n (room-left (c.args.k + 1) a c.requires.room))
+use Rattle.pattern_rewriting.proofs.put_edit.Goals.{then-edit, else-edit}
 
 pub returns : goal.returns
 returns c =
-    let a = c.put_all-opened.ensures in
-    let b = c.copy-filled.ensures in
-    let inside = appended-part a c.args.inside c.args.k c.requires.apart in
-    appended-more (appended-more a (rw inside at b)) c.put_ending.ensures
+    let kept = c.args.edit.kept in
+    let inside = appended-part c.put_all-opened.ensures (c.args.at + kept.start) (kept.end - kept.start) c.requires.apart in
+    let closing : c.if-edit.ending.now ≡ ending c.args.edit.closed =
+    elim c.if-edit.branch [ then-edit w ↦ rw (w.ending-is, w.if-edit.true) | else-edit w ↦ rw (w.ending-is, w.if-edit.false) ] in
+    appended-more (appended-more c.put_all-opened.ensures (rw inside at c.copy-filled.ensures)) (rw closing at c.put_all.ensures)

@@ -3,7 +3,7 @@ use Rattle.quotes.proofs.put_opening.Goals as goal
 
 pub returns-then-gap : goal.returns-then-gap
 returns-then-gap c =
-    rw (← c.gap.ensures, c.if-gap.true) c.put_all.ensures
+    rw (← c.gap.ensures, c.if-gap.true) (rw c.cut.ensures at c.put_all.ensures)
 
 pub returns : goal.returns
 returns c =

@@ -2,13 +2,11 @@
 use Rattle.spec.specs.Result.{most_symbols}
 use Rattle.quotes.specs.Quotes.{Quoting}
 use Rattle.text_symbols.specs.Parts.{part}
-use lib.ListN.{length}
-use mathlib.Core.Path.{◌≡◌}
 use Prim.Native.Nat.{◌-◌, ◌≤◌}
 use Rattle.quotes.proofs.rewrite_quotes.Given as goal
 
 abbrev pub invariant-loop-i : goal.invariant-loop-i
-invariant-loop-i l = (l.i ≤ l.n) × (length l.work ≡ length l.initial.work) × (length (part l.from l.n l.initial.work) ≡ l.n) × Quoting (part l.from l.n l.initial.work) l.initial.work l.work l.to most_symbols l.count l.quoted l.tail l.i
+invariant-loop-i l = (l.i ≤ l.n) × Quoting (part l.from l.n l.initial.work) l.initial.work l.work l.initial.out l.out l.quoted l.tail l.i
 
 abbrev pub decreases-loop-i : goal.decreases-loop-i
 decreases-loop-i l = l.n - l.i

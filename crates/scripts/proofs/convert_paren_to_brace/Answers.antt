@@ -8,4 +8,4 @@ use Rattle.scripts.proofs.convert_paren_to_brace.Goals as goal
 pub returns : goal.returns
 unfolding convert_paren_to_brace
 returns c =
-    record { staged = c.convert_pattern.ensures.staged; untouched = untouched-contains (c.args.sign ∷ bytes "(") c.convert_pattern.ensures.untouched }
+    record { staged = c.in_braces.ensures.staged; untouched = untouched-contains (c.args.sign ∷ bytes "(") c.in_braces.ensures.untouched }

@@ -9,4 +9,4 @@ use Rattle.scripts.proofs.wrap_multichar_scripts.Goals as goal
 
 pub returns : goal.returns
 returns c =
-    let sign = c.args.sign in record { staged = staged-by (wrap_multichar_scripts sign) (wrap-multichar-same sign) c.convert_pattern.ensures.staged; untouched = untouched-alike (λ s none. ap (λ b. b || false) (wrap-multichar-matches sign s) ∙ none) c.convert_pattern.ensures.untouched }
+    let sign = c.args.sign in record { staged = staged-by (wrap_multichar_scripts sign) (wrap-multichar-same sign) c.in_braces.ensures.staged; untouched = untouched-alike (λ s none. ap (λ b. b || false) (wrap-multichar-matches sign s) ∙ none) c.in_braces.ensures.untouched }

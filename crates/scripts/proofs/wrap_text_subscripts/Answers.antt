@@ -6,4 +6,4 @@ use Rattle.scripts.proofs.wrap_text_subscripts.Goals as goal
 
 pub returns : goal.returns
 returns c =
-    record { staged = staged-by (wrap_text_subscripts c.args.sign) (wrap-text-same c.args.sign) c.convert_pattern.ensures.staged; untouched = c.convert_pattern.ensures.untouched }
+    record { staged = staged-by (wrap_text_subscripts c.args.sign) (wrap-text-same c.args.sign) c.in_braces.ensures.staged; untouched = c.in_braces.ensures.untouched }

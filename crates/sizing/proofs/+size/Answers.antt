@@ -14,12 +14,12 @@ use Rattle.sizing.proofs.+size.Goals as goal
 pub loop-i-init : goal.loop-i-init
 loop-i-init t c =
     let a = c.args in
-    let s = part a.from a.n a.work.now in (
+    let s = part a.source.at a.source.n a.work.now in (
       omega arith,
       refl,
       refl,
       omega arith,
-      subst (λ r. Filling a.work.now a.work.now a.to most_symbols a.count a.count r (size_delimiters_to_content a.field s)) (sym (sized-first a.field s)) (filling-none _ _ _ _ _),
+      subst (λ r. Filling a.work.now a.work.now a.out a.out r (size_delimiters_to_content a.field s)) (sym (sized-first a.field s)) (filling-none _ _ _),
     )
 
 -- the symbols that are copied
@@ -28,7 +28,7 @@ loop-i-preserved-in-Keep t c =
     let f = kept-fits c.args.field c.loop-i.i c.requires c.loop-i.invariant.4 _ c.piece_at.ensures c.in-Keep.is in
     let a = c.copy-total.ensures in
     let n = a.counted in
-    let m = length-take c.in-Keep.k (drop (c.args.from + c.loop-i.i) c.loop-i.work) in
+    let m = length-take c.in-Keep.k (drop (c.args.source.at + c.loop-i.i) c.loop-i.work) in
     let long = appended-long a in
     (f, refl, omega arith, omega arith, kept_more c.args.field c.loop-i.i c.requires c.loop-i.invariant.4 _ c.piece_at.ensures c.in-Keep.is a)
 
@@ -36,9 +36,9 @@ loop-i-preserved-in-Keep t c =
 pub loop-i-preserved : goal.loop-i-preserved
 loop-i-preserved t c =
     let f = grown-fits c.args.field c.loop-i.i c.requires c.loop-i.invariant.4 _ c.piece_at.ensures c.in-Tall.is in
-    let left = c.put_left-total.ensures in
+    let left = c.put_sized-total.ensures in
     let inner = c.size-total.ensures in
-    let right = c.put_right-total.ensures in
+    let right = c.put_sized-total-in-Tall.ensures in
     let long = appended-long left in
     let longer = appended-long inner.appended in
     let longest = appended-long right in
@@ -54,8 +54,8 @@ loop-i-preserved t c =
 
 pub returns : goal.returns
 returns t c =
-    let g = length_part c.args.from c.args.n c.args.work.now c.requires.source in
+    let g = length_part c.args.source.at c.args.source.n c.args.work.now c.requires.source in
     record {
-      appended = filling-all c.loop-i.invariant.4 (sized-end c.args.field (part c.args.from c.args.n c.args.work.now) c.loop-i.i (omega arith));
+      appended = filling-all c.loop-i.invariant.4 (sized-end c.args.field (part c.args.source.at c.args.source.n c.args.work.now) c.loop-i.i (omega arith));
       few = omega arith;
     }

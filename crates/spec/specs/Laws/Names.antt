@@ -34,7 +34,7 @@ same-starts [] (y ∷ t) h = absurd (omega arith)
 same-starts (x ∷ s) [] h = absurd (omega arith)
 same-starts (x ∷ s) (y ∷ t) h = rw (same-starts s t (omega arith)) (and_comm (eqb x y) (starts t s))
 
-eqb-sym : (x y : ℕ) → eqb x y ≡ eqb y x
+pub eqb-sym : (x y : ℕ) → eqb x y ≡ eqb y x
 eqb-sym x y = go (eqb x y) refl
   where
     go : (t : Bool) → eqb x y ≡ t → t ≡ eqb y x

@@ -1,27 +1,27 @@
 -- `table::wide_record_at` meets its contract: the header is cut off, one of its first four bits is set, or its three bytes say the lengths. Assumes nothing.
 use mathlib.Core.Path.{sym}
 use native.Mathlib.Omega.{arith}
+use Prim.Native.Nat.{◌+◌, ◌<◌}
+use lib.ListN.{get_or}
 use Rattle.spec.specs.Table.{wide}
-use Rattle.table.specs.Reading.{unreadable, read-cut, read-bits, read_wide, fits-reads}
+use Rattle.table.specs.Reading.{read-cut, read-bits, read_wide, fits-reads}
 use Rattle.table.proofs.wide_record_at.Goals as goal
 
 pub returns-then-table-at-lt3 : goal.returns-then-table-at-lt3
 returns-then-table-at-lt3 c =
-    record { read = sym (read-cut wide c.args.table.now c.args.at c.requires c.if-table-at-lt3.true); stands = unreadable }
+    record { read = sym (read-cut wide c.args.table.now c.args.at c.requires c.if-table-at-lt3.true); stands = tt }
 
-pub returns-then-high-ge16 : goal.returns-then-high-ge16
-returns-then-high-ge16 c =
+pub returns-then-header-ge1048576 : goal.returns-then-header-ge1048576
+returns-then-header-ge1048576 c =
+    let middle : get_or c.args.table.now (c.args.at + 1) 0 < 256 = omega (arith, c.type_inv.table (c.args.at + 1)) in
+    let low : get_or c.args.table.now (c.args.at + 2) 0 < 256 = omega (arith, c.type_inv.table (c.args.at + 2)) in
     record {
-      read = sym (read-bits c.args.table.now c.args.at c.value-high.ensures.0 c.value-middle.ensures.0 c.value-low.ensures.0 (omega arith) (omega arith));
-      stands = unreadable;
+      read = sym (read-bits c.args.table.now c.args.at c.from_be_bytes-header.result (omega arith) middle low (omega arith) c.if-header-ge1048576.true);
+      stands = tt;
     }
-
-pub record_behind-requires : goal.record_behind-requires
-record_behind-requires c =
-    let b = c.value-middle.ensures.1 in let d = c.value-low.ensures.1 in
-    record { name_in_bounds = omega arith; name_le_most_name = (omega arith, omega arith) }
 
 pub returns : goal.returns
 returns c =
-    fits-reads c.record_behind.ensures
-    (read_wide c.args.table.now c.args.at c.value-high.ensures.0 c.value-middle.ensures.0 c.value-low.ensures.0 (omega arith) (omega arith))
+    let middle : get_or c.args.table.now (c.args.at + 1) 0 < 256 = omega (arith, c.type_inv.table (c.args.at + 1)) in
+    let low : get_or c.args.table.now (c.args.at + 2) 0 < 256 = omega (arith, c.type_inv.table (c.args.at + 2)) in
+    fits-reads c.record_behind.ensures (read_wide c.args.table.now c.args.at c.from_be_bytes-header.result (omega arith) middle low (omega arith) c.if-header-ge1048576.false)

@@ -1,22 +1,16 @@
 -- `table_order::precedes` meets its contract: by the lengths of the names, then by their bytes. Assumes nothing.
-use mathlib.Core.Path.{sym, ◌∙◌}
+use mathlib.Core.Path.{refl, sym, ap₂, ◌∙◌}
 use native.Mathlib.Omega.{arith}
-use Rattle.spec.specs.Laws.Order.{precedes-longer, precedes-shorter, precedes-alike}
-use Rattle.table.specs.Reading.{name_at, length-name}
+use Rattle.std.specs.Ordering.{is_lt, nat_cmp}
+use Rattle.std.proofs.lemmas.Cmp.{same_from_slice_cmp_tested}
+use Rattle.std.proofs.lemmas.Bool.Decides.{nat_tests}
+use Rattle.spec.specs.Table.{lower, precedes}
+use Rattle.spec.specs.Laws.Order.{precedes-alike}
 use Rattle.table_order.proofs.precedes.Goals as goal
 
-pub returns-then-other_length-length : goal.returns-then-other_length-length
-returns-then-other_length-length c =
-    let a = length-name c.requires.0 in let b = length-name c.requires.1 in
-    sym (precedes-longer (name_at c.args.table.now c.args.a) (name_at c.args.table.now c.args.b) (omega arith))
-
-pub returns-then-length-other_length : goal.returns-then-length-other_length
-returns-then-length-other_length c =
-    let a = length-name c.requires.0 in let b = length-name c.requires.1 in
-    sym (precedes-shorter (name_at c.args.table.now c.args.a) (name_at c.args.table.now c.args.b) (omega arith))
-
-pub returns : goal.returns
-returns c =
-    let a = length-name c.requires.0 in let b = length-name c.requires.1 in
-    c.is_lower.ensures
-    ∙ sym (precedes-alike (name_at c.args.table.now c.args.a) (name_at c.args.table.now c.args.b) (omega arith))
+pub returns-then-second-first-2 : goal.returns-then-second-first-2
+returns-then-second-first-2 c =
+    let by = same_from_slice_cmp_tested nat_cmp is_lt lower refl (λ _ _. refl) (λ _ _. refl) (λ x y xs ys o h. grind (arith, nat_tests)) in
+    by c.name_in-first.result.now c.name_in-second.result.now c.lt.result c.lt.ensures
+    ∙ sym (precedes-alike c.name_in-first.result.now c.name_in-second.result.now (omega arith))
+    ∙ ap₂ precedes c.name_in-first.ensures c.name_in-second.ensures

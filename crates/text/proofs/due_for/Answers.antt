@@ -5,25 +5,19 @@ use native.Mathlib.Omega.{arith}
 use Rattle.text.proofs.due_for.Goals as goal
 
 pub returns-in_default : goal.returns-in_default
-returns-in_default c =
-    due-refused c.requires _ c.in_default.is
+returns-in_default c = due-refused c.requires _ c.in_default.is
 
 pub overflow_add-end : goal.overflow_add-end
-overflow_add-end c =
-    let fits = placed-fits c.requires c.in-Text.is in omega arith
+overflow_add-end c = let fits = placed-fits c.requires c.in-Ok.is in omega arith
 
 pub slice_bounds-find-end : goal.slice_bounds-find-end
-slice_bounds-find-end c =
-    let fits = placed-fits c.requires c.in-Text.is in omega arith
+slice_bounds-find-end c = let fits = placed-fits c.requires c.in-Ok.is in omega arith
 
-pub returns-in_default-find : goal.returns-in_default-find
-returns-in_default-find c =
-    due-absent c.args.pattern.now c.requires c.in-Text.is c.find.ensures c.in_default-find.is
+pub returns-in_err-first : goal.returns-in_err-first
+returns-in_err-first c = rw c.from_residual.ensures (due-absent c.args.pattern.now c.requires c.in-Ok.is c.find.ensures c.in_err-first.was)
 
-pub overflow_sub-to : goal.overflow_sub-to
-overflow_sub-to c =
-    placed-low c.requires c.in-Text.is
+pub overflow_sub-from : goal.overflow_sub-from
+overflow_sub-from c = placed-low c.requires c.in-Ok.is
 
 pub returns : goal.returns
-returns c =
-    due-found c.args.pattern.now c.requires c.in-Text.is c.find.ensures c.in-At.is
+returns c = rw c.new.ensures (due-found c.args.pattern.now c.requires c.in-Ok.is c.find.ensures c.in_ok-first.was)

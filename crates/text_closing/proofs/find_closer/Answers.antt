@@ -1,6 +1,5 @@
 -- `text_closing::find_closer` meets its contract. The loop's invariant: the symbols passed have not closed the bracket, and the rest decides. Assumes nothing.
 use Rattle.text_closing.specs.Closing.{tallied-none, tallied-deep, tallied-here, tallied-more, tallied-end}
-use Prim.Native.Nat.{◌-◌}
 use native.Mathlib.Omega.{arith}
 use Rattle.text_closing.proofs.find_closer.Goals as goal
 

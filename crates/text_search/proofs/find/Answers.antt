@@ -5,7 +5,6 @@ use Rattle.spec.specs.Laws.Symbols.{find-here, find-end}
 use Rattle.spec.specs.Symbols.{starts}
 use lib.ListN.{drop, length-drop}
 use mathlib.Core.Path.{refl, sym, ap, ◌∙◌}
-use Prim.Native.Nat.{◌-◌}
 use native.Mathlib.Omega.{arith}
 use Rattle.text_search.proofs.find.Goals as goal
 

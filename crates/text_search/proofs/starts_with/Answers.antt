@@ -1,24 +1,16 @@
--- `text_search::starts_with` meets its contract. The loop's invariant: the pattern's first i bytes have been met. Assumes nothing.
-use Prim.Native.Nat.{◌-◌}
-use mathlib.Core.Path.{refl, sym}
-use native.Mathlib.Omega.{arith}
-use Rattle.text_search.specs.Search.{met-more, not-met, all-met}
-use Rattle.spec.specs.Laws.Symbols.{starts-short}
+-- `text_search::starts_with` meets its contract: the slice's own test is that of the definitions. Assumes nothing.
+use Rattle.std.specs.Prelude.{◌≡◌, refl, ◌&&◌, List, [], ◌∷◌, ℕ, eqb}
+use Rattle.std.specs.List.{starts_with}
+use Rattle.std.proofs.Common.{ap, ◌∙◌}
+use Rattle.std.proofs.Math.Bool.{and_comm}
+use Rattle.spec.specs.Symbols.{starts}
+use Rattle.spec.specs.Laws.Names.{eqb-sym}
 use Rattle.text_search.proofs.starts_with.Goals as goal
 
-pub returns-then-s-pattern : goal.returns-then-s-pattern
-returns-then-s-pattern c = sym (starts-short c.args.pattern.now c.args.s.now c.if-s-pattern.true)
-
-pub loop-i-init : goal.loop-i-init
-loop-i-init c = (omega arith, refl, record { same-as-whole = refl })
-
-pub returns-then-s-i : goal.returns-then-s-i
-returns-then-s-i c =
-    sym (not-met c.loop-i.invariant.2 (omega arith) (omega arith) c.if-s-i.true)
-
-pub loop-i-preserved : goal.loop-i-preserved
-loop-i-preserved c =
-    (omega arith, refl, met-more c.loop-i.invariant.2 (omega arith) (omega arith) c.if-s-i.false)
+starts-slice : (w s : List ℕ) → starts_with eqb s w ≡ starts w s
+starts-slice [] s = refl
+starts-slice (k ∷ w) [] = refl
+starts-slice (k ∷ w) (x ∷ s) = ap (λ t. eqb k x && t) (starts-slice w s) ∙ and_comm (eqb k x) (starts w s) ∙ ap (λ t. starts w s && t) (eqb-sym k x)
 
 pub returns : goal.returns
-returns c = sym (all-met c.loop-i.invariant.2 (omega arith))
+returns c = c.starts_with.ensures.value ∙ starts-slice c.args.pattern.now c.args.s.now

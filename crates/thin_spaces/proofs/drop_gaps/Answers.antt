@@ -1,77 +1,30 @@
 -- `thin_spaces::drop_gaps` meets its contract. The loop's invariant: what has been written and what is to be written from place i on are the whole.
 -- Assumes nothing.
-use Rattle.spec.specs.Result.{most_symbols}
-use Rattle.thin_spaces.specs.Thin.{thinned-first, thinned-end, gap-fits, gap_more, gap-few, symbol-more}
-use Rattle.spec.specs.Finish.{drop_thin_space_after_commands}
-use Rattle.text.specs.Filling.{Filling, filling-none, filling-all}
-use Rattle.text_symbols.specs.Parts.{part, length_part}
-use Rattle.text.specs.Writer.{appended-long}
-use mathlib.Core.Path.{refl, sym, subst}
-use Prim.Native.Nat.{◌+◌, ◌-◌, ◌≤◌}
+use Rattle.thin_spaces.specs.Thin.{thinning-none, thinning-all, gap_more, gap_if, symbol-more}
+use Rattle.text.specs.Writer.{Appended, appended-none}
+use mathlib.Core.Path.{refl}
 use native.Mathlib.Omega.{arith}
 use Rattle.thin_spaces.proofs.drop_gaps.Goals as goal
+use Rattle.thin_spaces.proofs.drop_gaps.Goals.{then-keeps_gap, else-keeps_gap}
 
 pub loop-i-init : goal.loop-i-init
-loop-i-init c =
-    let s = part c.args.from c.args.n c.args.work.now in (
-      refl,
-      refl,
-      omega arith,
-      omega arith,
-      omega arith,
-      subst (λ r. Filling c.args.work.now c.args.work.now c.args.to most_symbols 0 0 r (drop_thin_space_after_commands s)) (sym (thinned-first s)) (filling-none _ _ _ _ _),
-    )
+loop-i-init c = (refl, thinning-none c.args.work.now c.args.source.at c.args.source.n c.args.out)
 
-pub put_gap-count-requires : goal.put_gap-count-requires
-put_gap-count-requires c =
-    record { region = omega arith; small = omega arith }
-
-pub overflow_add-i : goal.overflow_add-i
-overflow_add-i c =
-    let fits : c.loop-i.i + 2 ≤ c.args.n = gap-fits c.requires c.loop-i.invariant.5 c.loop-i.invariant.3 c.loop-i-test.true c.is_gap.ensures c.if-is_gap.true in
-    let f = fits in omega arith
-
-pub loop-i-smaller-then-is_gap : goal.loop-i-smaller-then-is_gap
-loop-i-smaller-then-is_gap c =
-    let fits : c.loop-i.i + 2 ≤ c.args.n = gap-fits c.requires c.loop-i.invariant.5 c.loop-i.invariant.3 c.loop-i-test.true c.is_gap.ensures c.if-is_gap.true in
-    let f = fits in omega arith
-
-pub loop-i-preserved-then-is_gap : goal.loop-i-preserved-then-is_gap
-loop-i-preserved-then-is_gap c =
-    let fits : c.loop-i.i + 2 ≤ c.args.n = gap-fits c.requires c.loop-i.invariant.5 c.loop-i.invariant.3 c.loop-i-test.true c.is_gap.ensures c.if-is_gap.true in
-    let f = fits in
-    let a = c.put_gap-count.ensures in
-    let k = a.counted in
-    let few = gap-few c.keeps_gap-keeps.result in (
-      refl,
-      omega (arith, appended-long a),
-      f,
-      omega arith,
-      omega arith,
-      gap_more c.requires c.loop-i.invariant.5 c.loop-i.invariant.3 c.loop-i-test.true c.is_gap.ensures c.keeps_gap-keeps.result c.if-is_gap.true c.keeps_gap-keeps.ensures a,
-    )
-
-pub copy_one-count-requires : goal.copy_one-count-requires
-copy_one-count-requires c =
-    record { room = record { region = omega arith; small = omega arith }; at_in_bounds = omega arith }
+pub loop-i-preserved-then-starts_with : goal.loop-i-preserved-then-starts_with
+loop-i-preserved-then-starts_with c =
+    let put : Appended c.loop-i.work c.if-keeps_gap.work c.loop-i.out c.if-keeps_gap.out (gap_if c.keeps_gap.result) =
+    elim c.if-keeps_gap.branch [
+      | then-keeps_gap w ↦ rw (w.if-keeps_gap.true, w.work-is, w.out-is) w.put_all-out.ensures
+      | else-keeps_gap w ↦ rw (w.if-keeps_gap.false, w.work-is, w.out-is) (appended-none _ _)
+    ] in
+    (refl, gap_more c.requires c.loop-i.invariant.1 c.loop-i-test.true c.starts_with.ensures c.keeps_gap.result c.if-starts_with.true c.keeps_gap.ensures put)
 
 pub loop-i-preserved : goal.loop-i-preserved
 loop-i-preserved c =
-    let a = c.copy_one-count.ensures in
-    let k = a.counted in (
-      refl,
-      omega (arith, appended-long a),
-      omega arith,
-      omega arith,
-      omega arith,
-      symbol-more c.requires c.loop-i.invariant.5 c.loop-i.invariant.3 c.loop-i-test.true c.is_gap.ensures c.if-is_gap.false a,
-    )
+    (refl, symbol-more c.requires c.loop-i.invariant.1 c.loop-i-test.true c.starts_with.ensures c.if-starts_with.false c.copy_one-out.ensures)
 
 pub shape_of-work : goal.shape_of-work
-shape_of-work c = c.loop-i.invariant.1
+shape_of-work c = c.loop-i.invariant.1.long
 
 pub returns : goal.returns
-returns c =
-    let p = c.requires in
-    let g = length_part c.args.from c.args.n c.args.work.now p.source in
-    filling-all c.loop-i.invariant.5 (thinned-end (part c.args.from c.args.n c.args.work.now) c.loop-i.start c.loop-i.i (omega arith))
+returns c = thinning-all c.requires c.loop-i.invariant.1 (omega arith)

@@ -2,16 +2,12 @@
 -- Assumes nothing.
 use Rattle.spec.specs.Laws.Absent.{thin-spaces-absent}
 use Rattle.spec.specs.Finish.{drop_thin_space_after_commands}
-use Rattle.text.specs.Due.{staged-absent, pattern-occurs, staged-appended}
+use Rattle.text.specs.Due.{staged-absent, staged-appended}
 use Rattle.thin_spaces.proofs.drop_thin_space_after_commands.Goals as goal
 
 pub returns-in_default : goal.returns-in_default
 returns-in_default c = staged-absent c.due_for.ensures c.in_default.is drop_thin_space_after_commands thin-spaces-absent
 
-pub drop_gaps-count-requires : goal.drop_gaps-count-requires
-drop_gaps-count-requires c =
-    (pattern-occurs c.due_for.ensures c.in-Rewrite.is).regions
-
 pub returns : goal.returns
 returns c =
-    staged-appended c.due_for.ensures c.in-Rewrite.is drop_thin_space_after_commands c.drop_gaps-count.ensures c.finished.ensures
+    staged-appended c.due_for.ensures c.in-Some.is drop_thin_space_after_commands c.drop_gaps.ensures c.finished.ensures

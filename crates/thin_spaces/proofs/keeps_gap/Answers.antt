@@ -1,5 +1,5 @@
 -- `thin_spaces::keeps_gap` meets its contract, by the last backslash. Assumes nothing.
-use Rattle.thin_spaces.specs.Thin.{gap-found, gap-none, gap_if}
+use Rattle.thin_spaces.specs.Thin.{gap-found, gap_if}
 use Rattle.spec.specs.Finish.{spacing}
 use Rattle.text_symbols.specs.Parts.{rest_of}
 use mathlib.Core.Bool.{not}
@@ -7,10 +7,7 @@ use mathlib.Core.Path.{sym, ap, ◌∙◌}
 use native.Mathlib.Omega.{arith}
 use Rattle.thin_spaces.proofs.keeps_gap.Goals as goal
 
-pub returns-then-behind-eq0 : goal.returns-then-behind-eq0
-returns-then-behind-eq0 c = gap-none c.run_start-behind.ensures c.if-behind-eq0.true
-
-pub returns : goal.returns
-returns c =
+pub returns-else-behind-eq0 : goal.returns-else-behind-eq0
+returns-else-behind-eq0 c =
     let is-spacing = c.is_spacing.ensures ∙ ap spacing (rest_of c.run_start-behind.result c.args.s.now) in
     gap-found c.run_start-behind.ensures (omega arith) ∙ ap (λ b. gap_if (not b)) (sym is-spacing)

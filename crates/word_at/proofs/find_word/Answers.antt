@@ -1,20 +1,12 @@
--- `word_at::find_word` meets its contract: by the law for each way through it. Assumes nothing.
-use mathlib.Core.Path.{subst}
-use Rattle.entry_ends.specs.Answer.{Checks}
-use Rattle.entry_ends.specs.declared.admission.Verdict.TheVariants.{Passed}
+-- `word_at::find_word` meets its contract: by what the checks came to. Assumes nothing.
+use Rattle.std.proofs.lemmas.Result.{err_from_is_err_and}
 use Rattle.word_at.specs.Ways.{finds-word, finds-refused}
 use Rattle.word_at.proofs.find_word.Goals as goal
 
-pub returns-in-Passed : goal.returns-in-Passed
-returns-in-Passed c =
-    let passes : Checks c.args.formula.now c.args.table.now Passed = subst (Checks _ _) c.in-Passed.is c.check.ensures in
-    finds-word c.args.place (passes) c.pointed.ensures
+pub returns-in_err-check : goal.returns-in_err-check
+returns-in_err-check c =
+    let p = err_from_is_err_and c.from_residual.result c.from_residual.ensures.1 in
+    rw (p.1, p.2) (finds-refused c.args.place c.in_err-check.ensures)
 
-pub returns-in-Refused : goal.returns-in-Refused
-returns-in-Refused c =
-    finds-refused c.args.place (subst (Checks _ _) c.in-Refused.is c.check.ensures)
-
-pub pointed-requires : goal.pointed-requires
-pointed-requires c =
-    let passes : Checks c.args.formula.now c.args.table.now Passed = subst (Checks _ _) c.in-Passed.is c.check.ensures in
-    passes
+pub returns : goal.returns
+returns c = finds-word c.args.place c.in_ok-check.ensures c.pointed.ensures

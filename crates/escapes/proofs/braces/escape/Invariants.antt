@@ -7,13 +7,10 @@ use Rattle.text.specs.Filling.{Filling}
 use Rattle.text_symbols.specs.Parts.{part}
 use lib.ListN.{length}
 use mathlib.Core.Path.{◌≡◌}
-use Prim.Native.Nat.{◌+◌, ◌-◌, ◌*◌, ◌≤◌}
+use Prim.Native.Nat.{◌+◌, ◌*◌, ◌≤◌}
 use Rattle.escapes.proofs.braces.escape.Given as goal
 
 abbrev pub invariant-loop-i : goal.invariant-loop-i
 invariant-loop-i l =
-    (l.end ≡ l.from + l.n) × (length l.work ≡ length l.initial.work) × (l.i ≤ l.n) × (l.count ≤ 2 * l.i)
-    × Filling l.initial.work l.work l.to most_symbols 0 l.count (escaped_from (part l.from l.n l.initial.work) l.i) (escape_set_braces (part l.from l.n l.initial.work))
-
-abbrev pub decreases-loop-i : goal.decreases-loop-i
-decreases-loop-i l = l.n - l.i
+    (length l.work ≡ length l.initial.work) × (l.out.count ≤ l.initial.out.count + 2 * l.i)
+    × Filling l.initial.work l.work l.initial.out l.out (escaped_from (part l.from l.n l.initial.work) l.i) (escape_set_braces (part l.from l.n l.initial.work))

@@ -26,14 +26,14 @@ abbrev pub decreases-script : goal.decreases-script
 decreases-script l = 5 * length l.s.now
 
 -- sums and products are series, read part by part
-abbrev pub invariant-sum-loop-r : goal.invariant-sum-loop-r
-invariant-sum-loop-r l = Ahead sums l.s l.r l.t
+abbrev pub invariant-sum-loop-p : goal.invariant-sum-loop-p
+invariant-sum-loop-p l = Ahead sums l.s l.front l.t
 
-abbrev pub decreases-sum-loop-r : goal.decreases-sum-loop-r
-decreases-sum-loop-r l = length l.t
+abbrev pub decreases-sum-loop-p : goal.decreases-sum-loop-p
+decreases-sum-loop-p l = length l.t
 
-abbrev pub invariant-product-loop-r : goal.invariant-product-loop-r
-invariant-product-loop-r l = Ahead products l.s l.r l.t
+abbrev pub invariant-product-loop-p : goal.invariant-product-loop-p
+invariant-product-loop-p l = Ahead products l.s l.front l.t
 
-abbrev pub decreases-product-loop-r : goal.decreases-product-loop-r
-decreases-product-loop-r l = length l.t
+abbrev pub decreases-product-loop-p : goal.decreases-product-loop-p
+decreases-product-loop-p l = length l.t

@@ -10,7 +10,7 @@ use Rattle.text_closing.proofs.backward.find_closer_back.Goals as goal
 
 pub loop-i-init : goal.loop-i-init
 loop-i-init c =
-    rw c.new-tally.ensures (omega arith, refl, refl, omega arith, omega arith, ap (close c.args.opener c.args.closer 0) (sym (before-all c.args.s.now)))
+    rw c.new-tally.ensures (refl, refl, omega arith, omega arith, ap (close c.args.opener c.args.closer 0) (sym (before-all c.args.s.now)))
 
 pub returns-then-tally-eq0 : goal.returns-then-tally-eq0
 returns-then-tally-eq0 c =
@@ -18,12 +18,12 @@ returns-then-tally-eq0 c =
     let i = c.loop-i.i in
     let d = c.loop-i.tally.depth in
     let x = get_or c.args.s.now (i - 1) 0 in
-    let depth = depth-stepped c.loop-i.tally x inv.1 inv.2 c.step-tally.ensures in
+    let depth = depth-stepped c.loop-i.tally x inv.0 inv.1 c.step-tally.ensures in
     record {
       within = omega arith;
       left =
-          sym (inv.5 ∙ ap (close_from c.args.opener c.args.closer d) (before-step c.args.s.now i (omega arith) (omega arith))
-          ∙ close-here c.args.opener c.args.closer d x (before c.args.s.now (i - 1)) inv.3 (sym depth ∙ c.if-tally-eq0.true));
+          sym (inv.4 ∙ ap (close_from c.args.opener c.args.closer d) (before-step c.args.s.now i (omega arith) (omega arith))
+          ∙ close-here c.args.opener c.args.closer d x (before c.args.s.now (i - 1)) inv.2 (sym depth ∙ c.if-tally-eq0.true));
     }
 
 pub loop-i-preserved : goal.loop-i-preserved
@@ -34,16 +34,15 @@ loop-i-preserved c =
     let x = get_or c.args.s.now (i - 1) 0 in
     let rest = before c.args.s.now (i - 1) in
     let step = c.step-tally.ensures in
-    let depth = depth-stepped c.loop-i.tally x inv.1 inv.2 step in
-    let more = depth-more c.args.opener c.args.closer d x rest inv.3 in
+    let depth = depth-stepped c.loop-i.tally x inv.0 inv.1 step in
+    let more = depth-more c.args.opener c.args.closer d x rest inv.2 in
     let deep : 0 < c.step-tally.result.depth = omega arith in (
-      omega arith,
-      opener-kept c.loop-i.tally x inv.1 inv.2 step,
-      closer-kept c.loop-i.tally x inv.1 inv.2 step,
+      opener-kept c.loop-i.tally x inv.0 inv.1 step,
+      closer-kept c.loop-i.tally x inv.0 inv.1 step,
       deep,
       omega arith,
-      inv.5 ∙ ap (close_from c.args.opener c.args.closer d) (before-step c.args.s.now i (omega arith) (omega arith))
-          ∙ close-past c.args.opener c.args.closer d x rest inv.3 (subst (λ k. 0 < k) depth deep)
+      inv.4 ∙ ap (close_from c.args.opener c.args.closer d) (before-step c.args.s.now i (omega arith) (omega arith))
+          ∙ close-past c.args.opener c.args.closer d x rest inv.2 (subst (λ k. 0 < k) depth deep)
           ∙ ap (λ k. close_from c.args.opener c.args.closer k rest) (sym depth),
     )
 
@@ -51,4 +50,4 @@ pub returns : goal.returns
 returns c =
     let none = before-none c.args.s.now c.loop-i.i (omega arith) in
     let short = ap length none in
-    record { within = omega arith; left = sym (c.loop-i.invariant.5 ∙ close_deep c.args.opener c.args.closer (c.loop-i.tally.depth - 1) (before c.args.s.now c.loop-i.i) (omega arith)) }
+    record { within = omega arith; left = sym (c.loop-i.invariant.4 ∙ close_deep c.args.opener c.args.closer (c.loop-i.tally.depth - 1) (before c.args.s.now c.loop-i.i) (omega arith)) }

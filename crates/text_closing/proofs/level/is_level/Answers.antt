@@ -9,40 +9,39 @@ use Prim.Native.Nat.{◌-◌, ◌+◌, ◌<◌}
 use native.Mathlib.Omega.{arith}
 use Rattle.text_closing.proofs.level.is_level.Goals as goal
 
-pub loop-i-init : goal.loop-i-init
-loop-i-init c = rw c.new-tally.ensures (omega arith, refl, refl, omega arith, omega arith, refl)
+pub loop-b-init : goal.loop-b-init
+loop-b-init c = rw c.new-tally.ensures (refl, refl, omega arith, omega arith, refl)
 
 pub returns-then-tally-eq0 : goal.returns-then-tally-eq0
 returns-then-tally-eq0 c =
-    let inv = c.loop-i.invariant in
-    let i = c.loop-i.i in
-    let d = c.loop-i.tally.depth in
+    let inv = c.loop-b.invariant in
+    let i = c.loop-b.b-index in
+    let d = c.loop-b.tally.depth in
     let x = get_or c.args.s.now i 0 in
-    let depth = depth-stepped c.loop-i.tally x inv.1 inv.2 c.step-tally.ensures in
-    sym (inv.5 ∙ ap (level c.args.opener c.args.closer (d - 1)) (drop-step c.args.s.now i (omega arith))
-    ∙ level-here c.args.opener c.args.closer d x (drop (i + 1) c.args.s.now) inv.3 (sym depth ∙ c.if-tally-eq0.true))
+    let depth = depth-stepped c.loop-b.tally x inv.0 inv.1 c.step-tally.ensures in
+    sym (inv.4 ∙ ap (level c.args.opener c.args.closer (d - 1)) (drop-step c.args.s.now i (omega arith))
+    ∙ level-here c.args.opener c.args.closer d x (drop (i + 1) c.args.s.now) inv.2 (sym depth ∙ c.if-tally-eq0.true))
 
-pub loop-i-preserved : goal.loop-i-preserved
-loop-i-preserved c =
-    let inv = c.loop-i.invariant in
-    let i = c.loop-i.i in
-    let d = c.loop-i.tally.depth in
+pub loop-b-preserved : goal.loop-b-preserved
+loop-b-preserved c =
+    let inv = c.loop-b.invariant in
+    let i = c.loop-b.b-index in
+    let d = c.loop-b.tally.depth in
     let x = get_or c.args.s.now i 0 in
     let rest = drop (i + 1) c.args.s.now in
     let step = c.step-tally.ensures in
-    let depth = depth-stepped c.loop-i.tally x inv.1 inv.2 step in
-    let more = depth-more c.args.opener c.args.closer d x rest inv.3 in
+    let depth = depth-stepped c.loop-b.tally x inv.0 inv.1 step in
+    let more = depth-more c.args.opener c.args.closer d x rest inv.2 in
     let deep : 0 < c.step-tally.result.depth = omega arith in (
-      omega arith,
-      opener-kept c.loop-i.tally x inv.1 inv.2 step,
-      closer-kept c.loop-i.tally x inv.1 inv.2 step,
+      opener-kept c.loop-b.tally x inv.0 inv.1 step,
+      closer-kept c.loop-b.tally x inv.0 inv.1 step,
       deep,
       omega arith,
-      inv.5 ∙ ap (level c.args.opener c.args.closer (d - 1)) (drop-step c.args.s.now i (omega arith))
-          ∙ level-past c.args.opener c.args.closer d x rest inv.3 (subst (λ k. 0 < k) depth deep)
+      inv.4 ∙ ap (level c.args.opener c.args.closer (d - 1)) (drop-step c.args.s.now i (omega arith))
+          ∙ level-past c.args.opener c.args.closer d x rest inv.2 (subst (λ k. 0 < k) depth deep)
           ∙ ap (λ k. level c.args.opener c.args.closer (k - 1) rest) (sym depth),
     )
 
 pub returns : goal.returns
 returns c =
-    sym (c.loop-i.invariant.5 ∙ level-end c.args.opener c.args.closer c.loop-i.tally.depth c.args.s.now c.loop-i.i c.loop-i.invariant.3 (omega arith))
+    sym (c.loop-b.invariant.4 ∙ level-end c.args.opener c.args.closer c.loop-b.tally.depth c.args.s.now c.loop-b.b-index c.loop-b.invariant.2 (omega arith))

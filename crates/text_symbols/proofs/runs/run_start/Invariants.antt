@@ -2,13 +2,8 @@
 use Rattle.text_symbols.specs.Places.{before}
 use Rattle.text_symbols.specs.Runs.{member}
 use Rattle.spec.specs.Symbols.{drop_while}
-use lib.ListN.{length}
 use mathlib.Core.Path.{◌≡◌}
-use Prim.Native.Nat.{◌≤◌}
 use Rattle.text_symbols.proofs.runs.run_start.Given as goal
 
 abbrev pub invariant-loop-i : goal.invariant-loop-i
-invariant-loop-i l = (l.i ≤ l.end) × (l.end ≤ length l.s) × (drop_while (member l.class) (before l.s l.end) ≡ drop_while (member l.class) (before l.s l.i))
-
-abbrev pub decreases-loop-i : goal.decreases-loop-i
-decreases-loop-i l = l.i
+invariant-loop-i l = drop_while (member l.class) (before l.s l.end) ≡ drop_while (member l.class) (before l.s l.i)
