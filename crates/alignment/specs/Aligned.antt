@@ -3,12 +3,7 @@
 use Rattle.std.specs.Prelude.{◌≡◌, refl, Bool, true, false, ◌&&◌, ◌||◌, List, [], ◌∷◌, ◌++◌, ℕ, suc, ◌+◌, ◌-◌, ◌*◌, ◌≤◌, ◌<◌, eqb, length, get_or, drop}
 use Rattle.std.proofs.Common.{sym, ap, ap₂, ◌∙◌, subst, add-one, arith, length-drop, eq-eqb, ne_eqb}
 use Prim.Native.Char.{code}
-use Rattle.std.specs.List.{ends_with}
-use lib.Pointwise.{pointwise}
-use Rattle.std.proofs.Math.Bool.{and_comm}
-use Rattle.spec.specs.Laws.Names.{eqb-sym}
-use Rattle.spec.specs.Laws.Ends.{ends-front}
-use Rattle.spec.specs.Symbols.{bytes, is, empty, trim, starts, ends}
+use Rattle.spec.specs.Symbols.{bytes, is, empty, trim}
 use Rattle.spec.specs.Finish.{has_alignment, has_line_breaks, line_breaks, aligned, convert_alignment}
 use Rattle.spec.specs.Laws.Symbols.{drop-step, head-drop}
 use Rattle.text_symbols.specs.Parts.{part, length_part, whole_part}
@@ -54,19 +49,6 @@ break-is s i before next h b n =
         go : (t : List ℕ) → drop (i + 1) s ≡ t → eqb (length s) (i + 1) ≡ empty t
         go [] e = let l = length-drop (i + 1) s in let z = ap length e in eq-eqb (length s) (i + 1) (omega arith)
         go (x ∷ t) e = let l = length-drop (i + 1) s in let z = ap length e in ne_eqb (length s) (i + 1) (λ q. omega arith)
-
--- the slice's own test of how it ends is that of the definitions
-pointwise-starts : (w t : List ℕ) → length t ≤ length w → pointwise eqb w t ≡ starts w t
-pointwise-starts [] [] h = refl
-pointwise-starts [] (x ∷ t) h = absurd (omega arith)
-pointwise-starts (k ∷ w) [] h = refl
-pointwise-starts (k ∷ w) (x ∷ t) h =
-    ap (λ b. eqb k x && b) (pointwise-starts w t (omega arith)) ∙ and_comm (eqb k x) (starts w t) ∙ ap (λ b. starts w t && b) (eqb-sym k x)
-
-pub ends-slice : (w s : List ℕ) → ends_with eqb s w ≡ ends w s
-ends-slice w s =
-    let l = length-drop (length s - length w) s in
-    pointwise-starts w (drop (length s - length w) s) (omega arith) ∙ sym (ends-front w s)
 
 -- a test of the whole text, as the code reads it
 pub whole-test : (f : List ℕ → Bool) (from n : ℕ) (w : List ℕ) {b t : Bool} → b ≡ f (part from (from + n - from) w) → b ≡ t → f (part from n w) ≡ t

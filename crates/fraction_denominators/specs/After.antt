@@ -1,20 +1,17 @@
 -- The denominator: the jump from `\lvert` to `\rvert`, number 9, and the order of its pieces. Assumes nothing.
-use Rattle.std.specs.Prelude.{◌≡◌, refl, Bool, true, false, ◌&&◌, List, [], ◌∷◌, ℕ, ◌+◌, ◌-◌, ◌≤◌, eqb, length, take, drop}
+use Rattle.std.specs.Prelude.{◌≡◌, refl, Bool, true, false, List, [], ◌∷◌, ℕ, ◌+◌, ◌-◌, ◌≤◌, eqb, length, take, drop}
 use Rattle.std.proofs.Common.{sym, ap, ◌∙◌, arith, length-drop, drop-drop}
 use Rattle.std.proofs.lemmas.Bool.{false≢true}
-use Rattle.std.proofs.Math.Bool.{and_comm}
 use Rattle.std.proofs.Math.Option.{Option, none, some}
-use Rattle.std.specs.Cmp.Lexicographic.{pointwise}
 use Rattle.std.specs.List.{ends_with}
 use Rattle.spec.specs.Symbols.{bytes, is, solidus, head, past, any, until, starts, ends, find}
 use Rattle.spec.specs.Closing.{find_matching_paren}
 use Rattle.spec.specs.Fractions.{word_after, rvert_from, after_lvert, braces, bracket, grouped, after_brackets, after_word, passes_solidus, barred, find_fraction_part_after}
-use Rattle.spec.specs.Laws.Ends.{ends-front}
-use Rattle.spec.specs.Laws.Names.{eqb-sym}
 use Rattle.spec.specs.Laws.Symbols.{starts-long, find-starts}
 use Rattle.text_search.specs.Search.{Found, Finds, finds-at, finds-nothing}
 use Rattle.std.specs.Prelude.{Some, None, MatchOption}
 use Rattle.text_symbols.specs.Places.{AheadTo}
+use Rattle.slice_laws.specs.Tests.{ends-slice}
 use Rattle.text_symbols.specs.Parts.{part}
 use Rattle.fraction_operands.specs.Places.{Place, stays, until-ahead}
 
@@ -62,16 +59,6 @@ lvert-jumps word s t = rw (t, after_lvert)
 
 lvert-none : (word s : List ℕ) → ends (bytes "\\lvert") word ≡ false → after_lvert word s ≡ s
 lvert-none word s t = rw (t, after_lvert)
-
--- how a text ends, as the slice's own test says it
-starts-pointwise : (w t : List ℕ) → length t ≤ length w → pointwise eqb w t ≡ starts w t
-starts-pointwise [] [] h = refl
-starts-pointwise [] (x ∷ t) h = absurd (omega arith)
-starts-pointwise (k ∷ w) [] h = refl
-starts-pointwise (k ∷ w) (x ∷ t) h = ap (λ b. eqb k x && b) (starts-pointwise w t (omega arith)) ∙ and_comm (eqb k x) (starts w t) ∙ ap (λ b. starts w t && b) (eqb-sym k x)
-
-ends-slice : (w s : List ℕ) → ends_with eqb s w ≡ ends w s
-ends-slice w s = let n = length-drop (length s - length w) s in starts-pointwise w (drop (length s - length w) s) (omega arith) ∙ sym (ends-front w s)
 
 -- the word lies from place `start` to place `word`
 module _ (s : List ℕ) (start word : ℕ) (order : start ≤ word) (within : word ≤ length s) {b : Bool} (test : b ≡ ends_with eqb (part start (word - start) s) (bytes "\\lvert")) where

@@ -16,17 +16,14 @@ use Rattle.spec.specs.Symbols.{bytes, is, script_sign, head, until, starts}
 use Rattle.spec.specs.Closing.{close, matching_delimiter}
 use Rattle.spec.specs.Finish.{script_group, closing, already_sized, Group, tall, tall_group, left_right, size_delimiters_to_content}
 use Rattle.spec.specs.Laws.Symbols.{drop-step, head-drop}
-use Rattle.spec.specs.Laws.Ends.{ends-front}
 use Rattle.text_search.specs.Search.{Closes, closes-at, closes-within, closes-nothing, reach, inside-drop, until-drop}
+use Rattle.slice_laws.specs.Tests.{ends-slice}
 use Rattle.text_symbols.specs.Places.{before, before-next}
 use Rattle.text_search.specs.Search.{Found}
 use Rattle.std.specs.Prelude.{Some, None, MatchOption, not, ◌||◌}
 use Rattle.std.specs.Bool.{then_some}
 use Rattle.std.specs.List.{ends_with}
-use lib.Pointwise.{pointwise}
-use Rattle.std.proofs.Math.Bool.{and_comm}
 use Rattle.std.proofs.lemmas.Bool.{false≢true}
-use Rattle.spec.specs.Laws.Names.{eqb-sym}
 use Rattle.sizing.specs.Levels.{if_tall, group_of, group_with, group_step, script_step, sizes, sizes-first, sizes-step, close-behind-closer}
 use Rattle.sizing.specs.Alike.{Closer, group, sizes-alike}
 use Rattle.sizing.specs.declared.Piece.{Piece}
@@ -45,18 +42,9 @@ closer-is x = go (is "(" x)
 unfoldable pub sized_at : ℕ → List ℕ → ℕ → List ℕ
 sized_at field s i = sizes field (before s i) (drop i s)
 
--- ---- a word that stands right before a place: the slice's own test of how it ends is that of the definitions
-pointwise-starts : (w t : List ℕ) → length t ≤ length w → pointwise eqb w t ≡ starts w t
-pointwise-starts [] [] h = refl
-pointwise-starts [] (x ∷ t) h = absurd (omega arith)
-pointwise-starts (k ∷ w) [] h = refl
-pointwise-starts (k ∷ w) (x ∷ t) h =
-    ap (λ b. eqb k x && b) (pointwise-starts w t (omega arith)) ∙ and_comm (eqb k x) (starts w t) ∙ ap (λ b. starts w t && b) (eqb-sym k x)
-
+-- ---- a word that stands right before a place
 pub before-ends : (w s : List ℕ) (i : ℕ) → ends_with eqb (take i s) w ≡ starts (reverse w) (before s i)
-before-ends w s i =
-    let u = take i s in let l = length-drop (length u - length w) u in
-    pointwise-starts w (drop (length u - length w) u) (omega arith) ∙ sym (ends-front w u)
+before-ends w s i = ends-slice w (take i s)
 
 -- ---- a script group, by the code's test
 module _ (s : List ℕ) (i : ℕ) {a : Bool} {y : ℕ} (sign : a ≡ script_sign (get_or s i 0)) (next : y ≡ get_or s (i + 1) 0) where

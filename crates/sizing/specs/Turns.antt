@@ -2,7 +2,6 @@
 --     DelimitersSized     what the function ensures
 use Rattle.std.specs.Prelude.{◌≡◌, List, [], ◌∷◌, ◌++◌, ℕ, ◌+◌, ◌-◌, ◌*◌, ◌≤◌, length, get_or, take, drop}
 use Rattle.std.proofs.Common.{add_assoc, sym, ap, ap₂, ◌∙◌, subst, arith, drop_of_length-le}
-use Rattle.spec.specs.Result.{most_symbols}
 use Rattle.spec.specs.Symbols.{bytes}
 use Rattle.spec.specs.Finish.{left_right, size_delimiters_to_content}
 use Rattle.text_symbols.specs.Parts.{part, length_part, sub_part}

@@ -3,7 +3,7 @@
 --     FindsNamed       what `find_named` ensures
 --     finds-named      whether there is one
 -- Assumes nothing.
-use Rattle.std.specs.Prelude.{◌≡◌, refl, Bool, true, false, ◌||◌, ◌&&◌, eqb, List, [], ◌∷◌, ℕ, ◌+◌, ◌-◌, length}
+use Rattle.std.specs.Prelude.{◌≡◌, refl, Bool, true, false, ◌||◌, eqb, List, [], ◌∷◌, ℕ, ◌+◌, ◌-◌, length}
 use Rattle.std.proofs.Common.{sym, ap, ap₂, ◌∙◌, arith}
 use Rattle.std.proofs.Math.Option.{Option, none, some}
 use Rattle.std.specs.Cmp.Lexicographic.{pointwise}
@@ -12,6 +12,7 @@ use Rattle.spec.specs.Table.{Definition, Form, form_of, width, named}
 use Rattle.spec.specs.WordAt.{WordPart, in_table, latex_place}
 use Rattle.spec.specs.Laws.WordAt.{latex-here, latex-behind}
 use Rattle.std.specs.Prelude.{Option as Maybe, Some, None, is_some as found_any}
+use Rattle.slice_laws.specs.Tests.{pointwise-same}
 use Rattle.table.specs.Reading.{Stands, definition_at, name_at, length-name, length-latex}
 use Rattle.table.specs.Listed.{listed, Heads}
 use Rattle.table.specs.declared.Record.{Record}
@@ -24,15 +25,8 @@ pub record FindsNamed (s : List ℕ) (from : ℕ) (name : List ℕ) (r : Maybe R
   pub part : latex_part r ≡ latex_place (form_of s) name from (listed s from)
   pub stands : Stands s r
 
--- the slices' own test of names is that of the definitions
-names-equal : (a b : List ℕ) → pointwise eqb a b ≡ same a b
-names-equal [] [] = refl
-names-equal [] (y ∷ t) = refl
-names-equal (x ∷ s) [] = refl
-names-equal (x ∷ s) (y ∷ t) = ap (λ u. eqb x y && u) (names-equal s t)
-
 pub name-tested : (name other : List ℕ) {at : List ℕ} {b t : Bool} → b ≡ pointwise eqb name other → other ≡ at → b ≡ t → same name at ≡ t
-name-tested name other tested e f = ap (same name) (sym e) ∙ sym (names-equal name other) ∙ sym tested ∙ f
+name-tested name other tested e f = ap (same name) (sym e) ∙ sym (pointwise-same name other) ∙ sym tested ∙ f
 
 -- ---- one step: the record at a place has the name, or those behind it are asked
 module _ {s : List ℕ} {at : ℕ} {r : Record} (h : Heads s at r) (name : List ℕ) where

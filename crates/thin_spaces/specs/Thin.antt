@@ -10,9 +10,10 @@ use mathlib.Core.List.{List, [], ◌∷◌, ◌++◌, reverse, reverse-reverse}
 use native.Mathlib.Omega.{arith}
 use Rattle.std.proofs.Math.ListN.{get_or, drop, length-drop}
 use Rattle.std.proofs.lemmas.List.{length-reverse}
-use Rattle.spec.specs.Symbols.{bytes, is, same, letter, head, empty, until, drop_while, starts}
+use Rattle.spec.specs.Symbols.{bytes, is, letter, head, empty, until, drop_while, starts}
 use Rattle.spec.specs.Finish.{atom_commands, one_of, spacing_command, spacing, gap_from, gap, thin_spaces, drop_thin_space_after_commands}
 use Rattle.spec.specs.Laws.Symbols.{drop-step, starts-long, reverse-drop}
+use Rattle.slice_laws.specs.Tests.{pointwise-same}
 use Rattle.text_symbols.specs.Parts.{part, length_part, rest_part, sub_part}
 use Rattle.text_symbols.specs.Places.{before, before-all, before-step, length_before, AheadTo, BackTo, before-next}
 use Rattle.text_search.specs.Search.{until-drop}
@@ -22,12 +23,6 @@ use Rattle.text.specs.Sweep.{rest_from}
 use Rattle.text.specs.Filling.{Filling, filling-none, filling-all, filling-more, filling-symbol}
 
 -- ---- a command that sets an atom
-pointwise-same : (a b : List ℕ) → pointwise eqb a b ≡ same a b
-pointwise-same [] [] = refl
-pointwise-same [] (y ∷ b) = refl
-pointwise-same (x ∷ a) [] = refl
-pointwise-same (x ∷ a) (y ∷ b) = ap (λ t. eqb x y && t) (pointwise-same a b)
-
 pub listed-same : (l : List (List ℕ)) (w : List ℕ) → list_any (λ x. pointwise eqb x w) l ≡ one_of l w
 listed-same [] w = refl
 listed-same (x ∷ l) w = ap₂ ◌||◌ (pointwise-same x w) (listed-same l w)

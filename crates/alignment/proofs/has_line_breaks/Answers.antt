@@ -1,6 +1,6 @@
 -- `alignment::has_line_breaks` meets its contract. Assumes nothing.
 use Rattle.spec.specs.Symbols.{bytes}
-use Rattle.alignment.specs.Aligned.{ends-slice}
+use Rattle.slice_laws.specs.Tests.{ends-slice}
 use Rattle.alignment.proofs.has_line_breaks.Goals as goal
 
 pub returns : goal.returns

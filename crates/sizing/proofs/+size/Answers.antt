@@ -3,7 +3,6 @@ use native.Mathlib.Omega.{arith}
 use Prim.Native.Nat.{◌+◌}
 use mathlib.Core.Path.{refl, sym, subst}
 use lib.ListN.{drop, length-take}
-use Rattle.spec.specs.Result.{most_symbols}
 use Rattle.spec.specs.Finish.{size_delimiters_to_content}
 use Rattle.text.specs.Filling.{Filling, filling-none, filling-all}
 use Rattle.text.specs.Writer.{appended-long}

@@ -3,7 +3,6 @@
 use Prim.Native.Nat.{◌+◌, ◌-◌, ◌*◌, ◌≤◌}
 use mathlib.Core.Path.{◌≡◌}
 use lib.ListN.{length}
-use Rattle.spec.specs.Result.{most_symbols}
 use Rattle.spec.specs.Finish.{size_delimiters_to_content}
 use Rattle.text.specs.Filling.{Filling}
 use Rattle.text_symbols.specs.Parts.{part}
