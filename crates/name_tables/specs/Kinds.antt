@@ -38,8 +38,7 @@ use Rattle.name_entry.specs.Bounded.{
 }
 use Rattle.name_entry.specs.Sized.{sized, sized-none, FitsWithBlocks, StagedWithin, unmatched-within, within-alike, Remaining, remaining-step, remaining-all}
 use Rattle.name_entry.specs.Seen.{nowhere, nowhere-unmatched}
-use Rattle.name_greek.specs.declared.Row.{Row as CodeRow}
-use Rattle.name_greek.specs.Rows.{row_of, rows_of}
+use Rattle.name_greek.specs.Rows.{Row as CodeRow, row_of, rows_of}
 
 abbrev pub row_rule : Bounds → Row → Rule
 row_rule Literal r = replacing r.typst r.latex

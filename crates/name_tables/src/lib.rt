@@ -41,11 +41,11 @@ fn apply_row(work: &mut [u8], text: Progress, extra: usize, bounds: Bounds, row:
     ensures staged_within { StagedWithin work.old work.new text result extra (sized extra (sweep (row_rule bounds (row_of row.now)) 0 0)) }
     ensures untouched { Untouched work.old work.new text result (row_match bounds (row_of row.now) ∷ []) }
 {
-    let Row(pattern, fresh) = *row;
+    let pattern = name_greek::typst(row);
     let entry = Entry {
         bounds: bounds_of(bounds, pattern),
         pattern,
-        fresh,
+        fresh: name_greek::latex(row),
     };
     name_entry::apply(work, text, extra, &entry)
 }
@@ -69,7 +69,7 @@ pub fn apply_rows(
     let mut pairs = Pairs::new();
     pairs.mark(work, done);
     for row in table {
-        if pairs.is_nowhere(work, done, row.0) {
+        if pairs.is_nowhere(work, done, name_greek::typst(row)) {
             continue;
         }
         done = apply_row(work, done, extra, bounds, row);

@@ -1,7 +1,7 @@
 -- `name_tables::apply_rows` meets its contract. The loop's invariant: the other rows are left to be applied, and what is seen is of the text as
 -- it is. Assumes nothing.
-use Rattle.std.proofs.Common.{◌∙◌, sym}
-use Rattle.name_entry.specs.Seen.{marked-seen}
+use Rattle.std.proofs.Common.{◌∙◌, ap, sym}
+use Rattle.name_entry.specs.Seen.{nowhere, marked-seen}
 use Rattle.name_entry.specs.Sized.{remaining-ready}
 use Rattle.name_tables.specs.Kinds.{row-fair, row-left-fair, row-nowhere, rows-left-more, rows-left-none}
 use Rattle.name_tables.proofs.apply_rows.Goals as goal
@@ -10,7 +10,7 @@ pub loop-row-preserved-then-is_nowhere : goal.loop-row-preserved-then-is_nowhere
 loop-row-preserved-then-is_nowhere c =
     let left = c.loop-row.invariant.0 in
     let fair = row-fair _ (row-left-fair c.args.table.now c.loop-row.row-index _ c.requires.fair c.loop-row-test.true) in
-    let passed = row-nowhere c.args.bounds _ c.args.extra fair (remaining-ready left.remaining c.requires.ready) left.remaining.within (sym c.is_nowhere.ensures ∙ c.if-is_nowhere.true) in
+    let passed = row-nowhere c.args.bounds _ c.args.extra fair (remaining-ready left.remaining c.requires.ready) left.remaining.within (ap (nowhere c.loop-row.done c.loop-row.work) (sym c.typst.ensures) ∙ (sym c.is_nowhere.ensures ∙ c.if-is_nowhere.true)) in
     (rows-left-more left _ c.loop-row-test.true passed, c.loop-row.invariant.1)
 
 pub apply_row-done-requires-clause-fair : goal.apply_row-done-requires-clause-fair
