@@ -1,11 +1,11 @@
 -- The neighbours in a text, and patterns that are nowhere since two of their neighbours are none in the text.
 --     paired, pair_numbers   the number of two neighbours, which some pairs share; those of a text
---     Seen, SeenIn          a table with `true` at the number of each pair in a text, or in a formula on its way
---     PairsMarked           a table in which those have been set to `true`, and nothing else. `Marking`: of a text, this rest is left
---     missing               whether a pair of the pattern has no `true`
+--     Seen, SeenIn          a table with 1 at the number of each pair in a text, or in a formula on its way
+--     PairsMarked           a table in which those have been set to 1, and nothing else. `Marking`: of a text, this rest is left
+--     missing               whether a pair of the pattern has no 1
 --     nowhere               whether a pattern does not occur in a formula on its way
 -- Assumes nothing.
-use Rattle.std.specs.Prelude.{◌≡◌, refl, Bool, true, false, not, ◌&&◌, ◌||◌, List, [], ◌∷◌, ℕ, ◌+◌, ◌*◌, ◌<◌, eqb, length, get_or, Ok, Err}
+use Rattle.std.specs.Prelude.{◌≡◌, refl, Bool, true, false, not, cond, ◌&&◌, ◌||◌, List, [], ◌∷◌, ℕ, ◌+◌, ◌*◌, ◌<◌, eqb, length, get_or, Ok, Err}
 use Rattle.std.proofs.Common.{sym, ap, ◌∙◌, subst, arith, eqb-true, eq-eqb}
 use Rattle.std.proofs.Math.Bool.{and-false}
 use Rattle.std.proofs.lemmas.Bool.{false≢true, not-true}
@@ -31,26 +31,26 @@ pair_numbers (x ∷ y ∷ s) = paired x y ∷ pair_numbers (y ∷ s)
 abbrev pub pair_occurs : ℕ → List ℕ → Bool
 pair_occurs k s = any (eqb k) (pair_numbers s)
 
-pub record Seen (table : List Bool) (s : List ℕ) : Type 0 where
-  pub marked : (k : ℕ) → pair_occurs k s ≡ true → get_or table k false ≡ true
+pub record Seen (table s : List ℕ) : Type 0 where
+  pub marked : (k : ℕ) → pair_occurs k s ≡ true → get_or table k 0 ≡ 1
 
 -- what `mark_pairs` ensures, and `mark` of the text of a formula on its way
-pub record PairsMarked (table table' : List Bool) (s : List ℕ) : Type 0 where
-  pub entry : (k : ℕ) → get_or table' k false ≡ (pair_occurs k s || get_or table k false)
+pub record PairsMarked (table table' s : List ℕ) : Type 0 where
+  pub entry : (k : ℕ) → get_or table' k 0 ≡ cond (pair_occurs k s) 1 (get_or table k 0)
 
 -- a refused formula has none
 abbrev pub text_of : Progress → List ℕ → List ℕ
 text_of (Ok t) w = part t.at t.n w
 text_of (Err k) w = []
 
-abbrev pub SeenIn : List Bool → List ℕ → Progress → Type 0
+abbrev pub SeenIn : List ℕ → List ℕ → Progress → Type 0
 SeenIn table w p = Seen table (text_of p w)
 
-pub marked-seen : {table table' : List Bool} {s : List ℕ} → PairsMarked table table' s → Seen table' s
-marked-seen {table} m = record { marked = λ k e. m.entry k ∙ ap (λ t. t || get_or table k false) e }
+pub marked-seen : {table table' s : List ℕ} → PairsMarked table table' s → Seen table' s
+marked-seen {table} m = record { marked = λ k e. m.entry k ∙ ap (λ t. cond t 1 (get_or table k 0)) e }
 
-abbrev pub missing : List Bool → List ℕ → Bool
-missing table pattern = any (λ k. not (get_or table k false)) (pair_numbers pattern)
+abbrev pub missing : List ℕ → List ℕ → Bool
+missing table pattern = any (λ k. eqb (get_or table k 0) 0) (pair_numbers pattern)
 
 -- ---- going through a text
 pub pair-numbers-end : (s : List ℕ) → length s < 2 → pair_numbers s ≡ []
@@ -59,15 +59,15 @@ pair-numbers-end (x ∷ []) h = refl
 pair-numbers-end (x ∷ y ∷ s) h = absurd (omega arith)
 
 -- marking the pairs of the rest would give the table that is asked
-pub record Marking (table table' : List Bool) (s rest : List ℕ) : Type 0 where
-  pub entry : (k : ℕ) → (pair_occurs k rest || get_or table' k false) ≡ (pair_occurs k s || get_or table k false)
+pub record Marking (table table' s rest : List ℕ) : Type 0 where
+  pub entry : (k : ℕ) → cond (pair_occurs k rest) 1 (get_or table' k 0) ≡ cond (pair_occurs k s) 1 (get_or table k 0)
 
-pub marking-all : {table table' : List Bool} {s rest : List ℕ} → Marking table table' s rest → length rest < 2 → PairsMarked table table' s
+pub marking-all : {table table' s rest : List ℕ} → Marking table table' s rest → length rest < 2 → PairsMarked table table' s
 marking-all {table' = table'} {rest = rest} m h =
-    record { entry = λ k. sym (ap (λ ks. any (eqb k) ks || get_or table' k false) (pair-numbers-end rest h)) ∙ m.entry k }
+    record { entry = λ k. sym (ap (λ ks. cond (any (eqb k) ks) 1 (get_or table' k 0)) (pair-numbers-end rest h)) ∙ m.entry k }
 
 -- ---- a pattern with a pair that does not occur
-later : {table : List Bool} {s : List ℕ} {x : ℕ} → Seen table (x ∷ s) → Seen table s
+later : {table s : List ℕ} {x : ℕ} → Seen table (x ∷ s) → Seen table s
 later {s = []} r = record { marked = λ k e. absurd (false≢true e) }
 later {s = y ∷ s} {x} r = record { marked = λ k e. r.marked k (go (eqb k (paired x y)) e) }
   where
@@ -75,14 +75,14 @@ later {s = y ∷ s} {x} r = record { marked = λ k e. r.marked k (go (eqb k (pai
     go true e = refl
     go false e = e
 
-starts-missing : (table : List Bool) (pattern s : List ℕ) → Seen table s → missing table pattern ≡ true → starts pattern s ≡ false
+starts-missing : (table pattern s : List ℕ) → Seen table s → missing table pattern ≡ true → starts pattern s ≡ false
 starts-missing table [] s r e = absurd (false≢true e)
 starts-missing table (k ∷ []) s r e = absurd (false≢true e)
 starts-missing table (k ∷ l ∷ w) [] r e = refl
 starts-missing table (k ∷ l ∷ w) (x ∷ []) r e = refl
 starts-missing table (k ∷ l ∷ w) (x ∷ y ∷ s) r e = go (starts-missing table (l ∷ w) (y ∷ s) (later r)) (eqb x k) refl (eqb y l) refl
   where
-    here : eqb x k ≡ true → eqb y l ≡ true → get_or table (paired k l) false ≡ true
+    here : eqb x k ≡ true → eqb y l ≡ true → get_or table (paired k l) 0 ≡ 1
     here same next =
         r.marked (paired k l)
         (ap (λ t. t || pair_occurs (paired k l) (y ∷ s)) (eq-eqb (paired k l) (paired x y) (sym (ap (λ z. paired z y) (eqb-true x k same) ∙ ap (paired k) (eqb-true y l next)))))
@@ -91,11 +91,11 @@ starts-missing table (k ∷ l ∷ w) (x ∷ y ∷ s) r e = go (starts-missing ta
         (missing table (l ∷ w) ≡ true → starts (l ∷ w) (y ∷ s) ≡ false)
         → (t : Bool) → eqb x k ≡ t → (u : Bool) → eqb y l ≡ u
         → (starts (l ∷ w) (y ∷ s) && eqb x k) ≡ false
-    go further true same true next = ap (λ t. t && eqb x k) (further (sym (ap (λ m. not m || missing table (l ∷ w)) (here same next)) ∙ e))
+    go further true same true next = ap (λ t. t && eqb x k) (further (sym (ap (λ m. eqb m 0 || missing table (l ∷ w)) (here same next)) ∙ e))
     go further true same false other = ap (λ t. (starts w s && t) && eqb x k) other ∙ ap (λ t. t && eqb x k) (and-false (starts w s))
     go further false same u next = ap (λ t. starts (l ∷ w) (y ∷ s) && t) same ∙ and-false (starts (l ∷ w) (y ∷ s))
 
-pub find-missing : (table : List Bool) (pattern s : List ℕ) → Seen table s → missing table pattern ≡ true → find pattern s ≡ none
+pub find-missing : (table pattern s : List ℕ) → Seen table s → missing table pattern ≡ true → find pattern s ≡ none
 unfolding find
 find-missing table pattern [] r e = refl
 find-missing table pattern (x ∷ s) r e = find_past pattern x s (starts-missing table pattern (x ∷ s) r e) ∙ find-missing table pattern s (later r) e
@@ -106,7 +106,7 @@ nowhere (Ok t) w pattern = not (contains pattern (part t.at t.n w))
 nowhere (Err k) w pattern = true
 
 module _ (w pattern : List ℕ) {p : Progress} {from n : ℕ} (e : p ≡ Text from n) where
-  pub nowhere-missing : {table : List Bool} → SeenIn table w p → missing table pattern ≡ true → true ≡ nowhere p w pattern
+  pub nowhere-missing : {table : List ℕ} → SeenIn table w p → missing table pattern ≡ true → true ≡ nowhere p w pattern
   nowhere-missing {table} seen f =
       ap (λ o. not (is_some o)) (sym (find-missing table pattern (part from n w) (subst (λ q. SeenIn table w q) e seen) f))
       ∙ ap not (contains-find pattern (part from n w))

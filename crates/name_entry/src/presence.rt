@@ -1,6 +1,6 @@
 // The symbols that are neighbours in a text, each pair as a number. A pattern with a pair that does not occur is known to be nowhere,
 // and costs no search.
-ghost use Rattle.std.specs.Prelude.{◌≡◌, replicate, false};
+ghost use Rattle.std.specs.Prelude.{◌≡◌, replicate};
 ghost use Rattle.text.specs.Stage.{Ready};
 ghost use Rattle.name_entry.specs.Seen.{paired, PairsMarked, text_of, SeenIn, missing, nowhere};
 
@@ -13,18 +13,18 @@ fn pair(a: u8, b: u8) -> usize
     2 * usize::from(a) + usize::from(b)
 }
 
-// The pairs that occur, by their numbers. Two symbols have no number above 765.
+// The pairs that occur, by their numbers: 1 for each. Two symbols have no number above 765.
 #[derive(Clone, Copy)]
 pub struct Pairs {
-    pub seen: [bool; 768],
+    pub seen: [u8; 768],
 }
 
 impl Pairs {
     // No pair.
     pub fn new() -> Pairs
-        ensures { result.seen ≡ replicate 768 false }
+        ensures { result.seen ≡ replicate 768 0 }
     {
-        Pairs { seen: [false; 768] }
+        Pairs { seen: [0; 768] }
     }
 
     // Marks each pair that occurs. What was marked before stays, and so does what is not.
@@ -32,7 +32,7 @@ impl Pairs {
         ensures { PairsMarked self.old.seen self.new.seen s.now }
     {
         for w in s.windows(2) {
-            self.seen[pair(w[0], w[1])] = true;
+            self.seen[pair(w[0], w[1])] = 1;
         }
     }
 
@@ -53,7 +53,7 @@ impl Pairs {
         ensures { result ≡ missing self.now.seen pattern.now }
     {
         for w in pattern.windows(2) {
-            if !self.seen[pair(w[0], w[1])] {
+            if self.seen[pair(w[0], w[1])] == 0 {
                 return true;
             }
         }
