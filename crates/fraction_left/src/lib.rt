@@ -6,17 +6,26 @@ ghost use Rattle.spec.specs.Result.{most_symbols};
 ghost use Rattle.spec.specs.Fractions.{Done, nothing_done, is_left, leaving};
 ghost use Rattle.text_symbols.specs.Places.{before};
 ghost use Rattle.fraction_operands.specs.Places.{Place};
-ghost use Rattle.fraction_left.specs.Left.{Kept, rewritten_to};
+ghost use Rattle.fraction_left.specs.Left.{Kept, KeptIn, rewritten_to};
 
 use text::CAP;
 use text_symbols::Class;
 
-// What a round remembers: the end of the text that it rewrote last, and at each place whether a slash was left there. Every place of the longest
-// text has a mark.
-#[derive(Drop)]
+// What a round remembers: the end of the text that it rewrote last, and at each place whether a slash was left there, 1 if so. Every place of
+// the longest text has a mark.
+#[derive(Clone, Copy)]
 pub struct Marks {
-    rewritten: usize,
-    left: [bool; CAP],
+    pub rewritten: usize,
+    pub left: [u8; CAP],
+}
+
+// Clears the marks of the first `n` places, as many as there are.
+pub fn unmark(left: &mut [u8], n: usize)
+    requires { n ≤ length left.old }
+    ensures kept { KeptIn left.new 0 n nothing_done }
+    ensures as_long { length left.new ≡ length left.old }
+{
+    left[..n].fill(0);
 }
 
 impl Marks {
@@ -26,7 +35,7 @@ impl Marks {
     {
         Marks {
             rewritten: 0,
-            left: [false; CAP],
+            left: [0; CAP],
         }
     }
 
@@ -36,7 +45,7 @@ impl Marks {
         ensures { Kept self.new n nothing_done }
     {
         self.rewritten = 0;
-        self.left[0..n].fill(false);
+        unmark(&mut self.left, n);
     }
 
     // Marks the slash at `i`, which is left.
@@ -44,7 +53,7 @@ impl Marks {
         requires { i < most_symbols }
         ensures { (n : ℕ) (done : Done) (p : List ℕ) → length p ≡ i → i < n → Kept self.old n done → Kept self.new n (leaving done p) }
     {
-        self.left[i] = true;
+        self.left[i] = 1;
     }
 
     // The text up to `end` has been rewritten.
@@ -68,6 +77,6 @@ impl Marks {
             return false;
         }
         let j = back - 1;
-        (s[j] == b'/') & self.left[j]
+        (s[j] == b'/') & (self.left[j] == 1)
     }
 }
