@@ -2,11 +2,9 @@
 --     argument, delimited   what is written for what stands inside
 --     Called                the answer of `call_at`: the length of what stands inside
 -- Assumes nothing.
-use Rattle.std.specs.Prelude.{◌≡◌, Bool, true, false, cond, List, [], ◌∷◌, ◌++◌, ◌&&◌, refl, eqb, ℕ, ◌+◌, ◌-◌, ◌*◌, ◌≤◌, ◌<◌, length, get_or, take, drop}
+use Rattle.std.specs.Prelude.{◌≡◌, Bool, true, false, cond, List, [], ◌∷◌, ◌++◌, ℕ, ◌+◌, ◌-◌, ◌*◌, ◌≤◌, ◌<◌, length, get_or, take, drop}
 use Rattle.std.proofs.Common.{sym, ◌∙◌, subst, arith, length-take, length-append, drop-drop, length-take-le}
 use Rattle.std.proofs.Math.Path.{ap}
-use Rattle.std.proofs.Math.Bool.{and_comm}
-use lib.Pointwise.{pointwise}
 use Rattle.std.proofs.Math.Option.{Option, none, some}
 use Rattle.std.proofs.Math.ListN.{length-drop}
 use Rattle.spec.specs.Symbols.{◌and_then◌, inside, starts, trim, trim_quotes}
@@ -57,7 +55,7 @@ module _ (seen : List ℕ → List ℕ) (name s : List ℕ) where
   abbrev rest : List ℕ
   rest = drop (length name) s
 
-  called-by : (r : Found) → starts name s ≡ true → length (seen rest) ≡ length rest → Closes (seen rest) r (find_matching_paren (seen rest)) → Called seen name s r
+  pub called-by : (r : Found) → starts name s ≡ true → length (seen rest) ≡ length rest → Closes (seen rest) r (find_matching_paren (seen rest)) → Called seen name s r
   unfolding call_at
   called-by (Some k) e long f =
       let w = f.within in let l = length-drop (length name) s in
@@ -66,24 +64,6 @@ module _ (seen : List ℕ → List ℕ) (name s : List ℕ) where
         inner = rw (e, call_at) (ap some (sym (inside-alike rest (seen rest) long k (omega arith))) ∙ ap (λ o. o and_then λ behind. some (inside rest behind)) f.left);
       }
   called-by None e long f = record { within = omega arith; inner = rw (e, call_at) (ap (λ o. o and_then λ behind. some (inside rest behind)) f.left) }
-
--- the same by what `strip_prefix` says: its test is that of the definitions
-starts-stripped : (name s : List ℕ) → pointwise eqb (take (length name) s) name ≡ starts name s
-starts-stripped [] s = refl
-starts-stripped (k ∷ name) [] = refl
-starts-stripped (k ∷ name) (x ∷ s) = ap (λ t. eqb x k && t) (starts-stripped name s) ∙ and_comm (eqb x k) (starts name s)
-
-module _ (seen : List ℕ → List ℕ) (name s : List ℕ) where
-  pub called-unstripped : pointwise eqb (take (length name) s) name ≡ false → Called seen name s None
-  called-unstripped e = called-not seen name s (sym (starts-stripped name s) ∙ e)
-
-  pub called-stripped :
-      {t : List ℕ} {r : Found} → pointwise eqb (take (length name) s) name ≡ true → t ≡ drop (length name) s → length (seen t) ≡ length t
-      → Closes (seen t) r (find_matching_paren (seen t))
-      → Called seen name s r
-  called-stripped {t} {r} e same long f =
-      called-by seen name s r (sym (starts-stripped name s) ∙ e) (ap (λ l. length (seen l)) (sym same) ∙ long ∙ ap length same)
-      (subst (λ l. Closes (seen l) r (find_matching_paren (seen l))) same f)
 
 -- ---- a turn of a loop: `call_at` has looked at the rest of the text
 module _

@@ -31,8 +31,11 @@ pub fn call_at(s: &[u8], name: &[u8]) -> Option<usize>
     requires { length s.now ≤ half_work }
     ensures { Called over_quotes name.now s.now result }
 {
-    let rest = s.strip_prefix(name)?;
-    call_quotes::find_call_end(rest)
+    // No `strip_prefix`, which compares the whole name at every symbol.
+    if !text_search::starts_with(s, name) {
+        return None;
+    }
+    call_quotes::find_call_end(&s[name.len()..])
 }
 
 // What is written of the span inside a call: all of it, or what is left when blanks and then quotes have been trimmed away. A flag is

@@ -30,8 +30,11 @@ fn lr_at(s: &[u8]) -> Option<usize>
     requires { length s.now ≤ half_work }
     ensures { Called (λ s. s) lr_name s.entry.now result }
 {
-    let rest = s.strip_prefix(NAME)?;
-    text_closing::find_matching_paren(rest)
+    // No `strip_prefix`, as in `call_rewriting::call_at`.
+    if !text_search::starts_with(s, NAME) {
+        return None;
+    }
+    text_closing::find_matching_paren(&s[NAME.len()..])
 }
 
 // The delimiters of a first symbol, if it is one.

@@ -9,7 +9,7 @@ ghost use Rattle.text_search.specs.Search.{Finds, Gap, Passed, Sought};
 pub fn starts_with(s: &[u8], pattern: &[u8]) -> bool
     ensures { result ≡ starts pattern.now s.now }
 {
-    s.starts_with(pattern)
+    pattern.len() <= s.len() && pattern.iter().zip(s).all(|(k, x)| k == x)
 }
 
 // Whether the two texts are the same.
@@ -119,5 +119,6 @@ pub fn symbol(s: &[u8], i: usize) -> u8
 pub fn symbol_before(s: &[u8], i: usize) -> u8
     ensures { result ≡ get_or (0 ∷ s.now) i 0 }
 {
-    i.checked_sub(1).map_or(0, |k| symbol(s, k))
+    // No `checked_sub`: loops that ask this keep its bound up in each turn.
+    if i == 0 { 0 } else { symbol(s, i - 1) }
 }

@@ -1,5 +1,4 @@
 -- `call_rewriting::rewrite_calls` meets its contract. The loop's invariant is that of a sweep, at place i. Assumes nothing.
-use Rattle.spec.specs.Result.{most_symbols}
 use Rattle.call_rewriting.specs.Delimiters.{delimited}
 use Rattle.text.specs.Sweep.{Sweeping}
 use Rattle.spec.specs.Closing.{over_quotes}

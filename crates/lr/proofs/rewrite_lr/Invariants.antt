@@ -1,5 +1,4 @@
 -- `lr::rewrite_lr` meets its contract. The loop's invariant is that of a sweep, at place i, and no bare delimiter has been reached. Assumes nothing.
-use Rattle.spec.specs.Result.{most_symbols}
 use Rattle.lr.specs.Reached.{comes}
 use Rattle.spec.specs.Finish.{lr, bare_delimiter}
 use Rattle.spec.specs.Sweep.{reached}
