@@ -8,16 +8,19 @@ ghost use Rattle.fraction_numerators.specs.Script.{Scriptless};
 use text_closing::Tally;
 
 // Whether the parenthesis at `i` opens a script, or is the second that does.
+// By patterns: the subtraction in `symbol_before` would be kept up in each turn of the search below, which takes twice the time.
 fn opens_script(s: &[u8], i: usize) -> bool
     requires { Place s.now i }
     ensures { result ≡ script_opener (before s.now i) }
 {
-    if i == 0 {
-        return false;
+    match &s[..i] {
+        [] => false,
+        [near] => text_symbols::is_script_sign(*near),
+        [.., far, near] => {
+            text_symbols::is_script_sign(*near)
+                | ((*near == b'(') & text_symbols::is_script_sign(*far))
+        }
     }
-    let near = s[i - 1];
-    text_symbols::is_script_sign(near)
-        | ((near == b'(') & text_symbols::is_script_sign(text_search::symbol_before(s, i - 1)))
 }
 
 // Whether `pos` is within the parentheses of a script. An unmatched parenthesis that opens none begins a fresh tally, so this search
