@@ -53,9 +53,9 @@ pub struct Edit {
 }
 
 // Whether there is a match from `start` on. Behind it, only where the pattern stands is more looked at.
-fn is_matched(s: &[u8], start: usize, rewriting: Rewriting) -> bool
-    requires { (start < length s.now) × ((length s.now ≤ half_work) × (0 < length rewriting.pattern.now)) }
-    ensures { result ≡ somewhere_from (pattern_at rewriting.entry.kind rewriting.entry.pattern.now) s.now start }
+fn is_matched(s: &[u8], start: usize, rewriting: &Rewriting<'_>) -> bool
+    requires { (start < length s.now) × ((length s.now ≤ half_work) × (0 < length rewriting.now.pattern.now)) }
+    ensures { result ≡ somewhere_from (pattern_at rewriting.now.kind rewriting.now.pattern.now) s.now start }
 {
     let mut i = start;
     // The step varies: behind a place without a match, the next place of the pattern.
@@ -95,7 +95,7 @@ pub fn rewrite(work: &mut [u8], source: TextPlace, out: Writer, rewriting: Rewri
     // The step varies: all that is taken, or the symbols up to the next pattern.
     while i < n {
         let at = from + i;
-        let Some(edit) = edit_at(&work[at..end], rewriting) else {
+        let Some(edit) = edit_at(&work[at..end], &rewriting) else {
             out = out.copy_one(work, at);
             i += 1;
             let next = from + i;
@@ -122,7 +122,7 @@ pub fn convert_pattern(work: &mut [u8], text: Progress, rewriting: Rewriting) ->
     };
     let TextPlace { at: from, n } = source;
     let end = from + n;
-    if !is_matched(&work[from..end], first, rewriting) {
+    if !is_matched(&work[from..end], first, &rewriting) {
         return text;
     }
     rewrite(work, source, out, rewriting).finished()

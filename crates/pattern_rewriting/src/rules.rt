@@ -77,10 +77,11 @@ fn literal(s: &[u8], pattern: &[u8]) -> Edit
     }
 }
 
-// What is done with the text's first symbol, or with more of them. With no edit, the symbol is copied.
-pub fn edit_at(s: &[u8], rewriting: Rewriting) -> Option<Edit>
-    requires { (length s.now ≤ half_work) × (0 < length rewriting.pattern.now) }
-    ensures { (left : List ℕ) → Edited rewriting.entry.kind rewriting.entry.pattern.now left s.now result }
+// What is done with the text's first symbol, or with more of them. With no edit, the symbol is copied. The rewriting is lent: loops ask this
+// for each place, and by value its texts would be copied each time.
+pub fn edit_at(s: &[u8], rewriting: &Rewriting<'_>) -> Option<Edit>
+    requires { (length s.now ≤ half_work) × (0 < length rewriting.now.pattern.now) }
+    ensures { (left : List ℕ) → Edited rewriting.now.kind rewriting.now.pattern.now left s.now result }
 {
     let pattern = rewriting.pattern;
     if !text_search::starts_with(s, pattern) {

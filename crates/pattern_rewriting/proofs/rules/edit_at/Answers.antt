@@ -5,7 +5,7 @@ use Rattle.pattern_rewriting.proofs.rules.edit_at.Goals as goal
 
 pub returns-then-not-starts_with : goal.returns-then-not-starts_with
 returns-then-not-starts_with c =
-    λ left. edited-not c.args.rewriting.kind c.args.rewriting.pattern.now left c.args.s.now (sym c.starts_with.ensures ∙ c.if-not-starts_with.true)
+    λ left. edited-not c.args.rewriting.now.kind c.args.rewriting.now.pattern.now left c.args.s.now (sym c.starts_with.ensures ∙ c.if-not-starts_with.true)
 
 pub returns-in-Literal : goal.returns-in-Literal
 returns-in-Literal c = λ left. rw c.in-Literal.is (c.literal.ensures left)
