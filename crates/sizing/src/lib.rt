@@ -40,38 +40,36 @@ fn put_sized(work: &mut [u8], out: Writer, command: &[u8], b: u8) -> Writer
     end.put(work, b)
 }
 
-// Appends the text at `source`, with tall groups sized, on every level.
-fn size(work: &mut [u8], source: TextPlace, out: Writer, field: u32) -> Writer
-    requires { Regions work.old source.at source.n out }
-    ensures { DelimitersSized field work.old work.new source out result }
+// Appends the text at `source`, with tall groups sized, on every level. The writer is lent: by value, each level would hold one of its own.
+fn size(work: &mut [u8], source: TextPlace, out: &mut Writer, field: u32)
+    requires { Regions work.old source.at source.n out.old }
+    ensures { DelimitersSized field work.old work.new source out.old out.new }
 {
     let TextPlace { at: from, n } = source;
     let end = from + n;
-    let mut total = out;
     let mut i = 0;
     // The step varies: a script group or a tall one is passed as a whole.
     while i < n {
         let at = from + i;
         match piece_at(&work[from..end], i, field) {
             Piece::Keep(k) => {
-                total = total.copy(work, at, k);
+                *out = out.copy(work, at, k);
                 i += k;
             }
             Piece::Tall(k) => {
                 let b = work[at];
-                total = put_sized(work, total, b"\\left", b);
+                *out = put_sized(work, *out, b"\\left", b);
                 let inside = i + 1;
                 let content = TextPlace {
                     at: from + inside,
                     n: k,
                 };
-                total = size(work, content, total, field);
-                total = put_sized(work, total, b"\\right", closer_of(b));
+                size(work, content, out, field);
+                *out = put_sized(work, *out, b"\\right", closer_of(b));
                 i += k + 2;
             }
         }
     }
-    total
 }
 
 // The stage. Without a delimiter that opens, the text stays where it is.
@@ -85,6 +83,7 @@ pub fn size_delimiters_to_content(work: &mut [u8], text: Progress, field: u32) -
     if !pieces::has_delimiter(&work[from..end]) {
         return text;
     }
-    let out = Writer::new(text::CAP - from);
-    size(work, source, out, field).finished()
+    let mut out = Writer::new(text::CAP - from);
+    size(work, source, &mut out, field);
+    out.finished()
 }

@@ -69,7 +69,8 @@ fn tall_at(s: &[u8], i: usize, field: u32) -> Option<usize>
 {
     let b = s[i];
     let opens = (b == b'(') | (b == b'[');
-    if !opens | is_sized(s, i) {
+    // Only before a delimiter that opens is the text looked at: most symbols are none.
+    if !opens || is_sized(s, i) {
         return None;
     }
     tall_inside(&s[i + 1..], b, closer_of(b), field)

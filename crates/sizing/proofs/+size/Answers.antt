@@ -18,14 +18,14 @@ loop-i-init t c =
       refl,
       refl,
       omega arith,
-      subst (λ r. Filling a.work.now a.work.now a.out a.out r (size_delimiters_to_content a.field s)) (sym (sized-first a.field s)) (filling-none _ _ _),
+      subst (λ r. Filling a.work.now a.work.now a.out.now a.out.now r (size_delimiters_to_content a.field s)) (sym (sized-first a.field s)) (filling-none _ _ _),
     )
 
 -- the symbols that are copied
 pub loop-i-preserved-in-Keep : goal.loop-i-preserved-in-Keep
 loop-i-preserved-in-Keep t c =
     let f = kept-fits c.args.field c.loop-i.i c.requires c.loop-i.invariant.4 _ c.piece_at.ensures c.in-Keep.is in
-    let a = c.copy-total.ensures in
+    let a = c.copy.ensures in
     let n = a.counted in
     let m = length-take c.in-Keep.k (drop (c.args.source.at + c.loop-i.i) c.loop-i.work) in
     let long = appended-long a in
@@ -35,9 +35,9 @@ loop-i-preserved-in-Keep t c =
 pub loop-i-preserved : goal.loop-i-preserved
 loop-i-preserved t c =
     let f = grown-fits c.args.field c.loop-i.i c.requires c.loop-i.invariant.4 _ c.piece_at.ensures c.in-Tall.is in
-    let left = c.put_sized-total.ensures in
-    let inner = c.size-total.ensures in
-    let right = c.put_sized-total-in-Tall.ensures in
+    let left = c.put_sized.ensures in
+    let inner = c.size.ensures in
+    let right = c.put_sized-in-Tall.ensures in
     let long = appended-long left in
     let longer = appended-long inner.appended in
     let longest = appended-long right in

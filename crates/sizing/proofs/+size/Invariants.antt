@@ -14,8 +14,8 @@ decreases-size l = l.source.n
 
 abbrev pub invariant-loop-i : goal.invariant-loop-i
 invariant-loop-i l =
-    (l.i ≤ l.n) × (l.end ≡ l.from + l.n) × (length l.work ≡ length l.initial.work) × (l.total.count ≤ l.fn.out.count + 7 * l.i)
-    × Filling l.initial.work l.work l.fn.out l.total (sized_at l.field (part l.from l.n l.initial.work) l.i) (size_delimiters_to_content l.field (part l.from l.n l.initial.work))
+    (l.i ≤ l.n) × (l.end ≡ l.from + l.n) × (length l.work ≡ length l.initial.work) × (l.out.count ≤ l.initial.out.count + 7 * l.i)
+    × Filling l.initial.work l.work l.initial.out l.out (sized_at l.field (part l.from l.n l.initial.work) l.i) (size_delimiters_to_content l.field (part l.from l.n l.initial.work))
 
 abbrev pub decreases-loop-i : goal.decreases-loop-i
 decreases-loop-i l = l.n - l.i
