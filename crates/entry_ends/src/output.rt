@@ -11,7 +11,10 @@ pub fn copy_over(target: &mut [u8], source: &[u8])
     requires { length source.now ≤ length target.old }
     ensures { target.new ≡ source.now ++ drop (length source.now) target.old }
 {
-    target[..source.len()].copy_from_slice(source);
+    // No `copy_from_slice`: it calls `memmove`, and the static library is to call nothing but `memset`.
+    for i in 0..source.len() {
+        target[i] = source[i];
+    }
 }
 
 // The finished text to the output, if it fits.
