@@ -168,7 +168,9 @@ fn attach_once(work: &mut [u8], text: TextPlace) -> Option<TextPlace>
     let end = at + n;
     let i = text_search::find(&work[at..end], NAME)?;
     let open = at + i;
-    let k = call_rewriting::call_at(&work[open..end], NAME)?;
+    let Some(k) = call_rewriting::call_at(&work[open..end], NAME) else {
+        return None;
+    };
     let arguments = attachment_of(&work[at..end], i + NAME.len(), k)?;
     let to = other_half(at);
     let out = Writer {

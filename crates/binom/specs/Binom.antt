@@ -1,6 +1,6 @@
 -- Binomials: what is written for one, and the turns of the loop that rewrites. Assumes nothing.
 --     parted     what is written for what stands inside, which a comma parts
---     BinomAt    the answer of `binom_at`: the length of what stands inside, and the place of its comma
+--     BinomAt    whether a text begins with one: the length of what stands inside, and the place of its comma
 use Rattle.std.specs.Prelude.{◌≡◌, false, List, [], ◌∷◌, ◌++◌, ℕ, suc, ◌+◌, ◌-◌, ◌≤◌, ◌<◌, length, get_or, take, drop}
 use Rattle.std.specs.Prelude.{Option as Maybe, Some, None}
 use Rattle.std.proofs.Common.{sym, ap, ap₂, ◌∙◌, subst, arith, length-take, length-drop, length-append, drop-drop, take-take, length-take-le}
@@ -10,7 +10,7 @@ use Rattle.spec.specs.Sweep.{taken, kept}
 use Rattle.spec.specs.Closing.{find_comma_in_args, over_quotes}
 use Rattle.spec.specs.Calls.{call_at, call_length, binom_at, binom}
 use Rattle.spec.specs.Laws.Closing.{length_seen}
-use Rattle.text_symbols.specs.Parts.{part, whole_part, length_part, rest_part}
+use Rattle.text_symbols.specs.Parts.{part, whole_part, length_part, rest_part, sub_part}
 use Rattle.text_symbols.specs.Trim.{Narrowed, spanned}
 use Rattle.text_symbols.specs.declared.Span.{Span}
 use Rattle.text_search.specs.Search.{Found, Closes, closes-at, closes-within, closes-nothing, inside-alike}
@@ -100,7 +100,26 @@ module _ (s : List ℕ) {r : Found} (called : Called over_quotes name s r) where
             turn = rw (call-here, closes-at comma f, inside-alike (part 6 k s) (over_quotes (part 6 k s)) seen j (omega arith), second);
           }
 
--- ---- a turn of the loop: `binom_at` has looked at the rest of the text
+-- ---- a turn of the loop: the searches have looked at the rest of the text
+-- the loop takes what stands inside the call from the buffer
+module _
+    (from n i : ℕ) (w : List ℕ) {r : Found} (called : Called over_quotes name (rest_from from n i w) r) {k : ℕ} (e : r ≡ Some k) {q : Found}
+    (answer : Closes (over_quotes (part (from + i + 6) (from + i + 6 + k - (from + i + 6)) w)) q (find_comma_in_args (over_quotes (part (from + i + 6) (from + i + 6 + k - (from + i + 6)) w))))
+  where
+    same-inner : part (from + i + 6) (from + i + 6 + k - (from + i + 6)) w ≡ part 6 (6 + k - 6) (rest_from from n i w)
+    same-inner =
+        let f = call-fits (rest_from from n i w) called e in let l = length-take (from + n - (from + i)) (drop (from + i) w) in
+        whole_part (from + i + 6) k w ∙ sub_part (from + i) (from + n - (from + i)) 6 k w (omega arith) ∙ sym (whole_part 6 k (rest_from from n i w))
+
+    inner-answer : Closes (over_quotes (part 6 (6 + k - 6) (rest_from from n i w))) q (find_comma_in_args (over_quotes (part 6 (6 + k - 6) (rest_from from n i w))))
+    inner-answer = subst (λ t. Closes (over_quotes t) q (find_comma_in_args (over_quotes t))) same-inner answer
+
+    pub call-unparted : q ≡ None → BinomAt (rest_from from n i w) None
+    call-unparted = binom-unparted (rest_from from n i w) called e inner-answer
+
+    pub call-parted : {j : ℕ} → q ≡ Some j → BinomAt (rest_from from n i w) (Some (record { k = k; comma = j }))
+    call-parted = binom-stands (rest_from from n i w) called e inner-answer
+
 module _
     {w₀ w : List ℕ} {from n : ℕ} {o₀ o : Writer} {i : ℕ} (sweeping : Sweeping binom w₀ w from n o₀ o i)
     (more : i < n) {r : Maybe Inside} (met : BinomAt (rest_from from n i w) r)

@@ -8,7 +8,7 @@ ghost use Rattle.text_symbols.specs.Parts.{part};
 ghost use Rattle.text.specs.Writer.{Room, Appended, Apart, Regions};
 ghost use Rattle.text.specs.Stage.{Ready, Staged};
 ghost use Rattle.text_symbols.specs.Trim.{Within, spanned};
-ghost use Rattle.binom.specs.Binom.{latex_binom, parted, BinomAt};
+ghost use Rattle.binom.specs.Binom.{latex_binom, parted};
 
 use call_rewriting::{call_at, put_call};
 use text::{Due, Progress, TextPlace, Writer};
@@ -22,18 +22,6 @@ const NAME: &[u8] = b"binom(";
 pub struct Inside {
     pub k: usize,
     pub comma: usize,
-}
-
-// What stands inside the binomial that the text begins with. One that no comma parts is none.
-fn binom_at(s: &[u8]) -> Option<Inside>
-    requires { length s.now ≤ most_symbols }
-    ensures { BinomAt s.now result }
-{
-    let open = NAME.len();
-    let k = call_at(s, NAME)?;
-    let close = open + k;
-    let comma = call_commas::find_comma_in_args(&s[open..close])?;
-    Some(Inside { k, comma })
 }
 
 // Appends `\binom{`, the first span, `}{`, the second one, and `}`.
@@ -89,13 +77,20 @@ fn rewrite_binoms(work: &mut [u8], source: TextPlace, out: Writer) -> Writer
     // The step varies: behind a binomial the loop goes on. A loop of its own: a turn as a closure over the buffer would be no plainer.
     while i < n {
         let at = from + i;
-        let Some(parts) = binom_at(&work[at..end]) else {
+        let Some(k) = call_at(&work[at..end], NAME) else {
             out = out.copy_one(work, at);
             i += 1;
             continue;
         };
-        out = put_parted(work, out, at + NAME.len(), parts);
-        i += NAME.len() + parts.k + 1;
+        let inside = at + NAME.len();
+        let close = inside + k;
+        let Some(comma) = call_commas::find_comma_in_args(&work[inside..close]) else {
+            out = out.copy_one(work, at);
+            i += 1;
+            continue;
+        };
+        out = put_parted(work, out, inside, Inside { k, comma });
+        i += NAME.len() + k + 1;
     }
     out
 }
