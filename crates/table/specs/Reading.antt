@@ -16,7 +16,7 @@ use Rattle.std.proofs.Math.ListN.{length, length-drop}
 use borrow.Author.Tests.{leb-true, leb-false, ltb-false, le-leb, lt-leb, lt-ltb, le-ltb}
 use Rattle.spec.specs.Laws.Symbols.{drop-step}
 use Rattle.spec.specs.Laws.Table.{width_some, lengths-cut, lengths-long}
-use Rattle.spec.specs.Table.{Definition, Form, narrow, wide, form_of, start, width, Lengths, wide_lengths, lengths_of, definition_of, record-before, records_behind, records_in}
+use Rattle.spec.specs.Table.{Definition, Form, narrow, wide, form_of, start, width, Lengths, narrow_lengths, wide_lengths, lengths_of, definition_of, record-before, records_behind, records_in}
 use Rattle.text_symbols.specs.Parts.{part, length_part}
 use Rattle.table.specs.Records.{records-none, records-some}
 use Rattle.table.specs.declared.Record.{Record}
@@ -124,37 +124,52 @@ read-header form s at h = rw (lt-leb (length s) at h)
 pub read-cut : (form : Form) (s : List ℕ) (at : ℕ) → at < length s → length s - at < width form → read_in form s at ≡ unreadable
 read-cut form s at h few = let l = length-drop at s in read-header form s at h ∙ ap (headed form s at) (lengths-cut form (drop at s) (omega arith))
 
--- the header as one number, most significant byte first
+module _ (s : List ℕ) (at : ℕ) {high : ℕ} (e : high ≡ get_or s at 0) where
+  pub read-narrow : {low : ℕ} → low ≡ get_or s (at + 1) 0 → at + 2 ≤ length s → read_in narrow s at ≡ fitted s (at + 2) (narrow_lengths high low)
+  read-narrow {low} f more =
+      read-header narrow s at (omega arith)
+      ∙ ap (λ t. headed narrow s at (lengths_of narrow t)) (drop-step s at (omega arith) ∙ ap₂ (λ (x : ℕ) (t : List ℕ). x ∷ t) (sym e) (drop-step s (at + 1) (omega arith) ∙ ap (λ y. y ∷ drop (at + 1 + 1) s) (sym f)))
+
+  -- the first four bits and the two lengths
+  wide-bytes :
+      {middle low : ℕ} → middle ≡ get_or s (at + 1) 0 → low ≡ get_or s (at + 2) 0 → at + 3 ≤ length s
+      → read_in wide s at ≡ headed wide s at (cond (ltb high 16) (some (wide_lengths high middle low)) none)
+  wide-bytes {middle} {low} f g more =
+      let second : at + 1 + 1 ≡ at + 2 = omega arith in
+      read-header wide s at (omega arith)
+      ∙ ap (λ t. headed wide s at (lengths_of wide t))
+      (drop-step s at (omega arith)
+      ∙ ap₂ (λ (x : ℕ) (t : List ℕ). x ∷ t) (sym e)
+      (drop-step s (at + 1) (omega arith)
+      ∙ ap₂ (λ (y : ℕ) (t : List ℕ). y ∷ t) (sym f) (ap (λ k. drop k s) second ∙ drop-step s (at + 2) (omega arith) ∙ ap (λ z. z ∷ drop (at + 2 + 1) s) (sym g))))
+
+  pub read-bits : {middle low : ℕ} → middle ≡ get_or s (at + 1) 0 → low ≡ get_or s (at + 2) 0 → at + 3 ≤ length s → 16 ≤ high → read_in wide s at ≡ unreadable
+  read-bits {middle} {low} f g more set = wide-bytes f g more ∙ ap (λ b. headed wide s at (cond b (some (wide_lengths high middle low)) none)) (le-ltb high 16 set)
+
+  pub read_wide :
+      {middle low : ℕ} → middle ≡ get_or s (at + 1) 0 → low ≡ get_or s (at + 2) 0 → at + 3 ≤ length s → high < 16
+      → read_in wide s at ≡ fitted s (at + 3) (wide_lengths high middle low)
+  read_wide {middle} {low} f g more clear = wide-bytes f g more ∙ ap (λ b. headed wide s at (cond b (some (wide_lengths high middle low)) none)) (lt-ltb high 16 clear)
+
+-- the same of bytes, by the header as one number, most significant byte first
 module _ (s : List ℕ) (at header : ℕ) where
-  pub read-narrow :
+  pub read-narrow-header :
       header ≡ get_or s at 0 * 256 + get_or s (at + 1) 0 → get_or s (at + 1) 0 < 256 → at + 2 ≤ length s
       → read_in narrow s at ≡ fitted s (at + 2) (record { name = header / 1024; latex = header % 1024 })
-  read-narrow e low more =
+  read-narrow-header e low more =
       let name : get_or s at 0 / 4 ≡ header / 1024 = omega arith in
       let latex : (get_or s at 0 % 4) * 256 + get_or s (at + 1) 0 ≡ header % 1024 = omega arith in
-      read-header narrow s at (omega arith)
-      ∙ ap (λ t. headed narrow s at (lengths_of narrow t)) (drop-step s at (omega arith) ∙ ap (λ t. get_or s at 0 ∷ t) (drop-step s (at + 1) (omega arith)))
-      ∙ ap₂ (λ (n l : ℕ). fitted s (at + 2) (record { name = n; latex = l })) name latex
+      read-narrow s at refl refl more ∙ ap₂ (λ (n l : ℕ). fitted s (at + 2) (record { name = n; latex = l })) name latex
 
   module _ (e : header ≡ get_or s at 0 * 65536 + get_or s (at + 1) 0 * 256 + get_or s (at + 2) 0) (middle : get_or s (at + 1) 0 < 256) (low : get_or s (at + 2) 0 < 256) (more : at + 3 ≤ length s) where
-    -- the first four bits and the two lengths
-    wide-bytes : read_in wide s at ≡ headed wide s at (cond (ltb (get_or s at 0) 16) (some (wide_lengths (get_or s at 0) (get_or s (at + 1) 0) (get_or s (at + 2) 0))) none)
-    wide-bytes =
-        let second : at + 1 + 1 ≡ at + 2 = omega arith in
-        read-header wide s at (omega arith)
-        ∙ ap (λ t. headed wide s at (lengths_of wide t))
-        (drop-step s at (omega arith)
-        ∙ ap (λ t. get_or s at 0 ∷ t) (drop-step s (at + 1) (omega arith) ∙ ap (λ t. get_or s (at + 1) 0 ∷ t) (ap (λ k. drop k s) second ∙ drop-step s (at + 2) (omega arith))))
+    pub read-header-bits : 1_048_576 ≤ header → read_in wide s at ≡ unreadable
+    read-header-bits set = read-bits s at refl refl refl more (omega arith)
 
-    pub read-bits : 1_048_576 ≤ header → read_in wide s at ≡ unreadable
-    read-bits set = wide-bytes ∙ rw (le-ltb (get_or s at 0) 16 (omega arith))
-
-    pub read_wide : header < 1_048_576 → read_in wide s at ≡ fitted s (at + 3) (record { name = header / 8192; latex = header % 8192 })
-    read_wide clear =
+    pub read-wide-header : header < 1_048_576 → read_in wide s at ≡ fitted s (at + 3) (record { name = header / 8192; latex = header % 8192 })
+    read-wide-header clear =
         let name : get_or s at 0 * 8 + get_or s (at + 1) 0 / 32 ≡ header / 8192 = omega arith in
         let latex : (get_or s (at + 1) 0 % 32) * 256 + get_or s (at + 2) 0 ≡ header % 8192 = omega arith in
-        wide-bytes
-        ∙ rw (lt-ltb (get_or s at 0) 16 (omega arith)) (ap₂ (λ (n l : ℕ). fitted s (at + 3) (record { name = n; latex = l })) name latex)
+        read_wide s at refl refl refl more (omega arith) ∙ ap₂ (λ (n l : ℕ). fitted s (at + 3) (record { name = n; latex = l })) name latex
 
 -- ---- the records from a place on
 abbrev pub records_by : Form → List ℕ → Reading → Option (List Definition)

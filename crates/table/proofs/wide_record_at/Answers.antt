@@ -4,7 +4,7 @@ use native.Mathlib.Omega.{arith}
 use Prim.Native.Nat.{◌+◌, ◌<◌}
 use lib.ListN.{get_or}
 use Rattle.spec.specs.Table.{wide}
-use Rattle.table.specs.Reading.{read-cut, read-bits, read_wide, fits-reads}
+use Rattle.table.specs.Reading.{read-cut, read-header-bits, read-wide-header, fits-reads}
 use Rattle.table.proofs.wide_record_at.Goals as goal
 
 pub returns-then-table-at-lt3 : goal.returns-then-table-at-lt3
@@ -16,7 +16,7 @@ returns-then-header-ge1048576 c =
     let middle : get_or c.args.table.now (c.args.at + 1) 0 < 256 = omega (arith, c.type_inv.table (c.args.at + 1)) in
     let low : get_or c.args.table.now (c.args.at + 2) 0 < 256 = omega (arith, c.type_inv.table (c.args.at + 2)) in
     record {
-      read = sym (read-bits c.args.table.now c.args.at c.from_be_bytes-header.result (omega arith) middle low (omega arith) c.if-header-ge1048576.true);
+      read = sym (read-header-bits c.args.table.now c.args.at c.from_be_bytes-header.result (omega arith) middle low (omega arith) c.if-header-ge1048576.true);
       stands = tt;
     }
 
@@ -24,4 +24,4 @@ pub returns : goal.returns
 returns c =
     let middle : get_or c.args.table.now (c.args.at + 1) 0 < 256 = omega (arith, c.type_inv.table (c.args.at + 1)) in
     let low : get_or c.args.table.now (c.args.at + 2) 0 < 256 = omega (arith, c.type_inv.table (c.args.at + 2)) in
-    fits-reads c.record_behind.ensures (read_wide c.args.table.now c.args.at c.from_be_bytes-header.result (omega arith) middle low (omega arith) c.if-header-ge1048576.false)
+    fits-reads c.record_behind.ensures (read-wide-header c.args.table.now c.args.at c.from_be_bytes-header.result (omega arith) middle low (omega arith) c.if-header-ge1048576.false)
