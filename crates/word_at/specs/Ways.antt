@@ -79,3 +79,6 @@ module _ {formula table : List ℕ} (place : ℕ) where
   pub finds-refused : {why : Refusal} → Checks formula table (Err why) → FindsWord formula table (word_at formula table place) (Err why)
   unfolding word_at
   finds-refused c = record { answers = ap (λ r. r then pointed table place) c.answers; lies = tt }
+
+-- both, for the search
+pub ruleset finds = (finds-word, finds-refused)

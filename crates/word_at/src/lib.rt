@@ -42,7 +42,9 @@ pub fn word_number(formula: &[u8], table: &[u8], place: usize) -> u64
     }
 }
 
-// Where the part lies, or why there is none.
+// Where the part lies, or why there is none. The attribute names the laws of both ways: an answer goes by the name of a step, and would refuse
+// a right step of another name too.
+#[tactic(auto, using(crate::specs::Ways::finds))]
 pub fn find_word(formula: &[u8], table: &[u8], place: usize) -> Result<WordPlace, Refusal>
     ensures { FindsWord formula.now table.now (word_at formula.now table.now place) result }
 {
