@@ -1,6 +1,7 @@
 // The file of recorded cases: its head, and case after case. Numbers have their most significant byte first.
 ghost use Rattle.std.specs.Prelude.{◌≡◌, ◌+◌, ◌*◌, ◌<◌, ◌≤◌, length, slice_index, IfSome};
 ghost use Rattle.replay.specs.Fits.{CaseFits};
+ghost use Rattle.replay.specs.Recorded.{refusal_of};
 
 use super::calls::Setting;
 use std::io::Read;
@@ -58,7 +59,6 @@ pub fn is_at_end<R: Read>(file: &mut R) -> bool {
 fn case_of(header: &[u8]) -> Case
     requires { 18 ≤ length header.now }
 {
-    let number = u64::from(header[15]);
     Case {
         family: header[0],
         setting: Setting {
@@ -66,12 +66,19 @@ fn case_of(header: &[u8]) -> Case
             field: u32::from(header[2]),
             work: four(header, 3),
             output: two(header, 7),
-            refusal: if number == 0 { None } else { Some(number) },
+            refusal: refusal_of(u64::from(header[15])),
         },
         formula: two(header, 9),
         table: four(header, 11),
         latex: two(header, 16),
     }
+}
+
+// The refusal that a case records by its number: 0 stands for none.
+fn refusal_of(number: u64) -> Option<u64>
+    ensures { result ≡ refusal_of number }
+{
+    if number == 0 { None } else { Some(number) }
 }
 
 // The case, if there is room for it.
