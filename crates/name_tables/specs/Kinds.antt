@@ -1,4 +1,5 @@
 -- Tables of rules: the rule of a row for each kind of table, and the rows one after another.
+--     lent_row               a row of lent texts, as the definitions have it
 --     row_rule, row_match, bounds_of     the definitions' rule of a row and its match, and the code's
 --     fair_rows              no row is empty or too long
 --     sized_rows             the rows of a table in order, each a stage, while blocks are held or not
@@ -38,7 +39,11 @@ use Rattle.name_entry.specs.Bounded.{
 }
 use Rattle.name_entry.specs.Sized.{sized, sized-none, FitsWithBlocks, StagedWithin, unmatched-within, within-alike, Remaining, remaining-step, remaining-all}
 use Rattle.name_entry.specs.Seen.{nowhere, nowhere-unmatched}
-use Rattle.name_greek.specs.Rows.{Row as CodeRow, row_of, rows_of}
+use Rattle.name_tables.specs.declared.LentRow.{LentRow}
+
+-- a row of lent texts
+abbrev pub lent_row : LentRow → Row
+lent_row r = record { typst = r.0.now; latex = r.1.now }
 
 abbrev pub row_rule : Bounds → Row → Rule
 row_rule Literal r = replacing r.typst r.latex
@@ -130,31 +135,36 @@ sized_rows extra rule [] s = passed s
 sized_rows extra rule (r ∷ rs) s = sized extra (sweep (rule r) 0 0) s then sized_rows extra rule rs
 
 -- a row that is left can be applied
-pub row-left-fair : (table : List CodeRow) (i : ℕ) (d : CodeRow) → fair_rows (rows_of table) ≡ true → i < length table → fair_row (row_of (get_or table i d)) ≡ true
-row-left-fair [] i d e h = absurd (omega arith)
-row-left-fair (r ∷ rs) zero d e h = and_left (fair_row (row_of r)) (fair_rows (rows_of rs)) e
-row-left-fair (r ∷ rs) (suc i) d e h = row-left-fair rs i d (and_right (fair_row (row_of r)) (fair_rows (rows_of rs)) e) (omega arith)
+pub row-left-fair : {A : Type 0} (row_of : A → Row) (table : List A) (i : ℕ) (d : A) → fair_rows (map row_of table) ≡ true → i < length table → fair_row (row_of (get_or table i d)) ≡ true
+row-left-fair row_of [] i d e h = absurd (omega arith)
+row-left-fair row_of (r ∷ rs) zero d e h = and_left (fair_row (row_of r)) (fair_rows (map row_of rs)) e
+row-left-fair row_of (r ∷ rs) (suc i) d e h = row-left-fair row_of rs i d (and_right (fair_row (row_of r)) (fair_rows (map row_of rs)) e) (omega arith)
 
 -- of a table, i rows have been applied
-pub record RowsLeft (w₀ w : List ℕ) (p₀ p : Progress) (extra : ℕ) (b : Bounds) (table : List CodeRow) (i : ℕ) : Type 0 where
-  pub remaining : Remaining w₀ w p₀ p extra (sized_rows extra (row_rule b) (rows_of table)) (sized_rows extra (row_rule b) (rows_of (drop i table)))
-  pub entries : EntriesLeft w₀ w p₀ p (map (row_match b) (rows_of table)) (map (row_match b) (rows_of (drop i table)))
+pub record RowsLeft {A : Type 0} (row_of : A → Row) (w₀ w : List ℕ) (p₀ p : Progress) (extra : ℕ) (b : Bounds) (table : List A) (i : ℕ) : Type 0 where
+  pub remaining : Remaining w₀ w p₀ p extra (sized_rows extra (row_rule b) (map row_of table)) (sized_rows extra (row_rule b) (map row_of (drop i table)))
+  pub entries : EntriesLeft w₀ w p₀ p (map (row_match b) (map row_of table)) (map (row_match b) (map row_of (drop i table)))
 
-module _ {w₀ w : List ℕ} {p₀ p : Progress} {extra : ℕ} {b : Bounds} {table : List CodeRow} {i : ℕ} (left : RowsLeft w₀ w p₀ p extra b table i) where
-  pub rows-left-more : {w' : List ℕ} {p' : Progress} (d : CodeRow) → i < length table → RowApplied w w' p p' extra b (row_of (get_or table i d)) → RowsLeft w₀ w' p₀ p' extra b table (i + 1)
-  unfolding sized_rows
-  rows-left-more d more applied =
-      let next : drop i table ≡ get_or table i d ∷ drop (i + 1) table = rw (add-one, drop-cons table i d) in
-      let rest = sized_rows extra (row_rule b) (rows_of (drop (i + 1) table)) in record {
-        remaining = remaining-step left.remaining rest applied.0 (λ s. ap (λ rs. sized_rows extra (row_rule b) (rows_of rs) s) next);
-        entries = entries-more (row_match b (row_of (get_or table i d)) ∷ []) _ left.entries (ap (λ rs. map (row_match b) (rows_of rs)) next) applied.1;
-      }
+module _
+    {A : Type 0} {row_of : A → Row} {w₀ w : List ℕ} {p₀ p : Progress} {extra : ℕ} {b : Bounds} {table : List A} {i : ℕ}
+    (left : RowsLeft row_of w₀ w p₀ p extra b table i)
+  where
+    pub rows-left-more :
+        {w' : List ℕ} {p' : Progress} (d : A) → i < length table → RowApplied w w' p p' extra b (row_of (get_or table i d))
+        → RowsLeft row_of w₀ w' p₀ p' extra b table (i + 1)
+    unfolding sized_rows
+    rows-left-more d more applied =
+        let next : drop i table ≡ get_or table i d ∷ drop (i + 1) table = rw (add-one, drop-cons table i d) in
+        let rest = sized_rows extra (row_rule b) (map row_of (drop (i + 1) table)) in record {
+          remaining = remaining-step left.remaining rest applied.0 (λ s. ap (λ rs. sized_rows extra (row_rule b) (map row_of rs) s) next);
+          entries = entries-more (row_match b (row_of (get_or table i d)) ∷ []) _ left.entries (ap (λ rs. map (row_match b) (map row_of rs)) next) applied.1;
+        }
 
-  pub rows-left-none : length table ≤ i → StagedWithin w₀ w p₀ p extra (sized_rows extra (row_rule b) (rows_of table)) × Untouched w₀ w p₀ p (map (row_match b) (rows_of table))
-  unfolding sized_rows
-  rows-left-none none =
-      let end : drop i table ≡ [] = drop_of_length-le table none in
-      (remaining-all left.remaining (λ s. ap (λ rs. sized_rows extra (row_rule b) (rows_of rs) s) end), entries-all left.entries)
+    pub rows-left-none : length table ≤ i → StagedWithin w₀ w p₀ p extra (sized_rows extra (row_rule b) (map row_of table)) × Untouched w₀ w p₀ p (map (row_match b) (map row_of table))
+    unfolding sized_rows
+    rows-left-none none =
+        let end : drop i table ≡ [] = drop_of_length-le table none in
+        (remaining-all left.remaining (λ s. ap (λ rs. sized_rows extra (row_rule b) (map row_of rs) s) end), entries-all left.entries)
 
 -- with nothing held, they are the definitions' stages
 then_same : (r r' : Result (List ℕ)) (f g : List ℕ → Result (List ℕ)) → r ≡ r' → ((s : List ℕ) → f s ≡ g s) → (r then f) ≡ (r' then g)
