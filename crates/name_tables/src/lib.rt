@@ -4,11 +4,11 @@
 
 ghost use Rattle.std.specs.Prelude.{◌≡◌, true, [], ◌∷◌, map};
 ghost use Rattle.spec.specs.Sweep.{sweep};
+ghost use Rattle.spec.specs.Rows.{Row as DefinedRow};
 ghost use Rattle.spec.specs.Words.{literal};
 ghost use Rattle.text.specs.Stage.{Ready};
 ghost use Rattle.text.specs.Untouched.{Untouched};
 ghost use Rattle.name_entry.specs.Sized.{sized, FitsWithBlocks, StagedWithin};
-ghost use Rattle.spec.specs.Rows.{Row as DefinedRow};
 ghost use Rattle.name_greek.specs.Rows.{row_of};
 ghost use Rattle.name_tables.specs.Kinds.{lent_row, bounds_of, row_rule, row_match, fair_row, fair_rows, sized_rows};
 
